@@ -1,0 +1,1 @@
+// Does this integer match this element template.
