@@ -2,6 +2,10 @@
 -- Examples == every refusal row and every open point about reading, computed
 -- Records  == one record at a place: its faults and its parts
 -- Scans    == a scan step by step: element templates
+-- Wholes   == a scan step by step: stars, members, items, bodies
+-- Answers  == the number for a whole input, from a scan of its front
 mod Examples
 pub mod Records
 pub mod Scans
+pub mod Wholes
+pub mod Answers

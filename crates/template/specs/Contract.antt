@@ -4,15 +4,23 @@
 -- Scanned countOf t o code next count <-> what a scan says of the reading o: the refusal `code`, never 0; or `code` 0, `next` the
 --                      place after what was read, and `count` as countOf counts it
 -- Answered o r       <-> r is the number for the whole reading o: the refusal's, never 0; or 0 where o is accepted
--- leavesTo c         == the leaves so far
+-- Stepped leafHead t at m seen stars code next count seen' <-> what a scan says of one item of a set of, permutation, superset or
+--                      subset: a refusal, a 20 or a member, and whether a 20 was seen by then
+-- leavesTo c         == the leaves so far; oneMore m e, groupTo m g, itemTo m i, itemsTo m is, bodyTo b, templateTo t == the members
+--                      so far, with m before; noCount a == 0, where nothing is counted
+-- lengthOf given min max == the length attribute, where one is given
 -- Assumes nothing: these are definitions.
 use mathlib.Core.Path.{_≡_}
-use mathlib.Core.Bool.{Bool}
+use mathlib.Core.Bool.{Bool, true, false, _&&_, cond}
 use mathlib.Core.List.{List, []}
-use Prim.Native.Nat.{ℕ, _≤_, _<_}
+use Prim.Native.Nat.{ℕ, _+_, _≤_, _<_}
+use lib.Dec.{eqb}
 use lib.ListN.{length, drop}
-use Rattle.template.specs.Record.{Head, fault, leafHere, group}
+use Rattle.template.specs.Element.{Elem}
+use Rattle.template.specs.Template.{Star, star, Group, Item, Body, Length, anyLength, between, Template, template, membersOfGroup, membersOfItem, membersOfItems, membersOf}
+use Rattle.template.specs.Record.{Head, fault, leafHere, group, kindOf}
 use Rattle.template.specs.Reading.{Read, refuse, got, Counted, counted}
+use Rattle.template.specs.Whole.{starHere, member}
 
 pub data HeadAt {L : Type 0} (t : List ℕ) (h : Head L) (code n next : ℕ) : Type 0 where
   faulty : h ≡ fault code → 0 < code → HeadAt t h code n next
@@ -29,3 +37,34 @@ pub data Answered {A : Type 0} (o : Read A) (r : ℕ) : Type 0 where
 
 unfoldable pub leavesTo : {A : Type 0} → Counted A → ℕ
 leavesTo (counted a k) = k
+
+module _ {L : Type 0} where
+  abbrev pub oneMore : ℕ → Elem L → ℕ
+  oneMore m e = m + 1
+
+  abbrev pub groupTo : ℕ → Group L → ℕ
+  groupTo m g = m + length (membersOfGroup g)
+
+  abbrev pub itemTo : ℕ → Item L → ℕ
+  itemTo m i = m + length (membersOfItem i)
+
+  abbrev pub itemsTo : ℕ → List (Item L) → ℕ
+  itemsTo m is = m + length (membersOfItems is)
+
+  abbrev pub bodyTo : Body L → ℕ
+  bodyTo b = length (membersOf b)
+
+  unfoldable pub templateTo : Template L → ℕ
+  templateTo (template a b) = bodyTo b
+
+abbrev pub noCount : {A : Type 0} → A → ℕ
+noCount a = 0
+
+abbrev pub lengthOf : Bool → ℕ → ℕ → Length
+lengthOf given min max = cond given (between min max) anyLength
+
+pub data Stepped {L : Type 0} (leafHead : List ℕ → Head L) (t : List ℕ) (at m : ℕ) (seen stars : Bool) (code next count : ℕ) (seen′ : Bool) : Type 0 where
+  stepStar : (stars && eqb (kindOf (drop at t)) 0x20) ≡ true → Scanned noCount t (starHere seen (drop at t)) code next 0
+      → count ≡ m → seen′ ≡ true → Stepped leafHead t at m seen stars code next count seen′
+  stepMember : (stars && eqb (kindOf (drop at t)) 0x20) ≡ false → Scanned (oneMore m) t (member leafHead m (drop at t)) code next count
+      → seen′ ≡ seen → Stepped leafHead t at m seen stars code next count seen′
