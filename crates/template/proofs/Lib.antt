@@ -4,8 +4,10 @@
 -- Scans    == a scan step by step: element templates
 -- Wholes   == a scan step by step: stars, members, items, bodies
 -- Answers  == the number for a whole input, from a scan of its front
+-- Laws     == what was read, taken apart: the parts of an element template, and where they stand
 mod Examples
 pub mod Records
 pub mod Scans
 pub mod Wholes
 pub mod Answers
+pub mod Laws
