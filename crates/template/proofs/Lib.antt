@@ -5,9 +5,12 @@
 -- Wholes   == a scan step by step: stars, members, items, bodies
 -- Answers  == the number for a whole input, from a scan of its front
 -- Laws     == what was read, taken apart: the parts of an element template, and where they stand
+-- Claims   == the claims of specs/Claims.antt; Unique == each promise allows one result only
 mod Examples
 pub mod Records
 pub mod Scans
 pub mod Wholes
 pub mod Answers
 pub mod Laws
+pub mod Claims
+pub mod Unique

@@ -6,6 +6,7 @@
 -- Reading == bytes to element templates, with every refusal
 -- Whole == bytes to templates, with every refusal
 -- Contract == what the functions say
+-- Claims == what is proved of them
 -- Assumes nothing: these are definitions.
 pub mod Element
 pub mod Template
@@ -14,3 +15,4 @@ pub mod Leaf
 pub mod Reading
 pub mod Whole
 pub mod Contract
+pub mod Claims
