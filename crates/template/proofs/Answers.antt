@@ -8,8 +8,9 @@ use borrow.Author.Tests.{lt-ltb, le-ltb}
 use lib.ListN.{length, getD, drop, drop-of-length-le}
 use lib.Seq.{drop-cons}
 use Rattle.template.specs.Record.{Head}
+use Rattle.template.specs.Leaf.{leafHead}
 use Rattle.template.specs.Reading.{Read, refuse, got, ended, limited, Counted, counted, uncounted, elem, outermost}
-use Rattle.template.specs.Contract.{Scanned, refused, read, leavesTo, Answered, rejected, accepted}
+use Rattle.template.specs.Contract.{Scanned, refused, read, leavesTo, Answered, rejected, accepted, ElementHere, EndAt}
 use Rattle.template.proofs.Scans.{scanned-refused, scanned-read}
 
 module _ {A : Type 0} (t : List ℕ) (o : Read A) where
@@ -42,3 +43,11 @@ pub uncounted-scanned : {A : Type 0} (t : List ℕ) (o : Read (Counted A)) (code
 unfolding uncounted
 uncounted-scanned t o code next k (refused q p) = refused (ap uncounted q) p
 uncounted-scanned t o code next k (read (counted a j) q z e i) = read a (ap uncounted q) z refl i
+
+-- a scan of the element template that stands at a place ends where its reading does
+pub ends-there : (t : List ℕ) (at code next k : ℕ) → ElementHere t at → Scanned leavesTo t (elem leafHead 8 0 (drop at t)) code next k → EndAt t at next
+ends-there t at code next k w (refused q p) = let r = w .reads in let z : _≡_ {A = ℕ} 0 1 = cc in absurd (omega arith)
+ends-there t at code next k w (read a q z e i) = record { inside = i; right = λ e′ k′ rest r. after (sym q ∙ r) }
+  where
+    after : {e : Counted _} {rest : List ℕ} → got a (drop next t) ≡ got e rest → drop next t ≡ rest
+    after {e = e} {rest = rest} v = cc

@@ -5,6 +5,8 @@
 -- Wholes   == a scan step by step: stars, members, items, bodies
 -- Answers  == the number for a whole input, from a scan of its front
 -- Laws     == what was read, taken apart: the parts of an element template, and where they stand
+-- Limits   == what was accepted has at most 32 members
+-- Numbers  == which numbers a refusal can have
 -- Claims   == the claims of specs/Claims.antt; Unique == each promise allows one result only
 mod Examples
 pub mod Records
@@ -12,5 +14,7 @@ pub mod Scans
 pub mod Wholes
 pub mod Answers
 pub mod Laws
+pub mod Limits
+pub mod Numbers
 pub mod Claims
 pub mod Unique

@@ -6,6 +6,8 @@
 -- Answered o r       <-> r is the number for the whole reading o: the refusal's, never 0; or 0 where o is accepted
 -- Stepped leafHead t at m seen stars code next count seen' <-> what a scan says of one item of a set of, permutation, superset or
 --                      subset: a refusal, a 20 or a member, and whether a 20 was seen by then
+-- ElementHere t at   <-> an element template at depth 1 stands at `at`, with all that it holds
+-- EndAt t at r       <-> r is the place after the element template that stands at `at`
 -- leavesTo c         == the leaves so far; oneMore m e, groupTo m g, itemTo m i, itemsTo m is, bodyTo b, templateTo t == the members
 --                      so far, with m before; noCount a == 0, where nothing is counted
 -- lengthOf given min max == the length attribute, where one is given
@@ -19,7 +21,8 @@ use lib.ListN.{length, drop}
 use Rattle.template.specs.Element.{Elem}
 use Rattle.template.specs.Template.{Star, star, Group, Item, Body, Length, anyLength, between, Template, template, membersOfGroup, membersOfItem, membersOfItems, membersOf}
 use Rattle.template.specs.Record.{Head, fault, leafHere, group, kindOf}
-use Rattle.template.specs.Reading.{Read, refuse, got, Counted, counted}
+use Rattle.template.specs.Leaf.{Leaf, leafHead}
+use Rattle.template.specs.Reading.{Read, refuse, got, Counted, counted, outermost}
 use Rattle.template.specs.Whole.{starHere, member}
 
 pub data HeadAt {L : Type 0} (t : List ℕ) (h : Head L) (code n next : ℕ) : Type 0 where
@@ -68,3 +71,14 @@ pub data Stepped {L : Type 0} (leafHead : List ℕ → Head L) (t : List ℕ) (a
       → count ≡ m → seen′ ≡ true → Stepped leafHead t at m seen stars code next count seen′
   stepMember : (stars && eqb (kindOf (drop at t)) 0x20) ≡ false → Scanned (oneMore m) t (member leafHead m (drop at t)) code next count
       → seen′ ≡ seen → Stepped leafHead t at m seen stars code next count seen′
+
+pub record ElementHere (t : List ℕ) (at : ℕ) : Type 0 where
+  pub inside : at ≤ length t
+  pub what : Elem Leaf
+  pub leaves : ℕ
+  pub rest : List ℕ
+  pub reads : outermost leafHead (drop at t) ≡ got (counted what leaves) rest
+
+pub record EndAt (t : List ℕ) (at r : ℕ) : Type 0 where
+  pub inside : r ≤ length t
+  pub right : (e : Elem Leaf) (k : ℕ) (rest : List ℕ) → outermost leafHead (drop at t) ≡ got (counted e k) rest → drop r t ≡ rest

@@ -1,0 +1,211 @@
+-- From an assignment to the first: the least member at one place, and the places from left to right. Assumes nothing.
+use mathlib.Core.Path.{_≡_, refl, sym, ap, _∙_, subst}
+use mathlib.Core.Logic.{_⊎_, inl, inr, ⊎-elim}
+use mathlib.Core.Bool.{Bool, true, false}
+use mathlib.Core.List.{List, [], _∷_}
+use Prim.Native.Nat.{ℕ, zero, suc, _+_, _-_, _≤_, _<_, min}
+use native.Mathlib.Omega.{arith}
+use lib.ListN.{length, getD}
+use Rattle.assign.specs.Rows.{may, between, cnt, Plus}
+use Rattle.assign.specs.Search.{Flipped, within, fits, Dealt, Later, Rival, Rivals, Agrees, Tries, Asks, Exchanged, Improved, Sooner, Leads}
+use Rattle.assign.proofs.Lemmas.{same?, below?, clash, between-in, between-from, between-to}
+use Rattle.assign.proofs.Counting.{cnt-at, cnt-place, cnt-two}
+use Rattle.assign.proofs.Deals.{dealt-fits, dealt-block, fits-block, fits-within, within-may, within-piece}
+
+-- a byte of an assignment: 255, or a member of the block that may take the element
+pub byte : {rows : List ℕ} {first k from to : ℕ} {a : List ℕ} → Dealt rows first k from to a → (e : ℕ) → e < 32
+    → (getD a e 0 ≡ 255) ⊎ ((first ≤ getD a e 0) × (getD a e 0 < first + k) × (may rows (getD a e 0) e ≡ true))
+byte {rows} {first} {k} {from} {to} {a} d e l = ⊎-elim inl
+    (λ f. let b = fits-block rows first k from to _ e f in inr (between-from first (first + k) _ b, between-to first (first + k) _ b, within-may rows from to _ e (fits-within rows first k from to _ e f)))
+    (d .right e l)
+
+-- ---- the rivals, place by place
+rival-wider : {rows w : List ℕ} {e p m : ℕ} → Rival rows w e p m → Rival rows w e (p + 1) m
+rival-wider r =
+    let l = r .later in
+    let z = l .early in
+    record { low = r .low; below = r .below; may-take = r .may-take; later = record { place = l .place; after = l .after; early = omega arith; here = l .here } }
+
+-- the place of a rival is p, or one before
+rival-at : {rows w : List ℕ} {e p m : ℕ} → Rival rows w e (p + 1) m → (getD w p 0 ≡ m) ⊎ Rival rows w e p m
+rival-at {rows} {w} {e} {p} {m} r =
+    let l = r .later in
+    let z = l .early in
+    ⊎-elim
+    (λ (q : l .place ≡ p). inl (ap (λ (j : ℕ). getD w j 0) (sym q) ∙ l .here))
+    (λ (q : l .place ≡ p → ⊥). inr (record { low = r .low; below = r .below; may-take = r .may-take; later = record { place = l .place; after = l .after; early = omega arith; here = l .here } }))
+    (same? (l .place) p)
+
+pub rivals-none : {rows w : List ℕ} {e : ℕ} {C : ℕ → Bool} → ((m : ℕ) → C m ≡ false) → Rivals rows w e (e + 1) C
+rivals-none none = record {
+  sound = λ m c. absurd (clash c (none m));
+  complete = λ m r. let x = r .later .after in let y = r .later .early in absurd (omega arith);
+}
+
+module _ {rows w : List ℕ} {e p : ℕ} {C : ℕ → Bool} (h : Rivals rows w e p C) where
+  -- the holder of p is no rival
+  pub rivals-skip : (Rival rows w e (p + 1) (getD w p 0) → ⊥) → Rivals rows w e (p + 1) C
+  rivals-skip never = record {
+    sound = λ m c. rival-wider (h .sound m c);
+    complete = λ m r. ⊎-elim
+        (λ (q : getD w p 0 ≡ m). absurd (never (subst (λ (v : ℕ). Rival rows w e (p + 1) v) (sym q) r)))
+        (λ (q : Rival rows w e p m). h .complete m q)
+        (rival-at r);
+  }
+
+  -- the holder of p is one
+  pub rivals-more : {S : ℕ → Bool} → Plus C (getD w p 0) S → Rival rows w e (p + 1) (getD w p 0) → Rivals rows w e (p + 1) S
+  rivals-more {S} f here = record {
+    sound = λ m c. ⊎-elim
+        (λ (q : m ≡ getD w p 0). subst (λ (v : ℕ). Rival rows w e (p + 1) v) (sym q) here)
+        (λ (n : m ≡ getD w p 0 → ⊥). rival-wider (h .sound m (sym (f .other m n) ∙ c)))
+        (same? m (getD w p 0));
+    complete = λ m r. ⊎-elim
+        (λ (q : m ≡ getD w p 0). rw q (f .self))
+        (λ (n : m ≡ getD w p 0 → ⊥). f .other m n ∙ ⊎-elim
+        (λ (q : getD w p 0 ≡ m). absurd (n (sym q)))
+        (λ (q : Rival rows w e p m). h .complete m q)
+        (rival-at r))
+        (same? m (getD w p 0));
+  }
+
+-- ---- the least member at e: an assignment that is as w before e and has a smaller byte at e has one of C there
+pub record Going (rows : List ℕ) (first k from to : ℕ) (w : List ℕ) (e : ℕ) (C : ℕ → Bool) : Type 0 where
+  pub going : (a : List ℕ) → Dealt rows first k from to a → Agrees a w e → getD a e 0 < getD w e 0 → C (getD a e 0) ≡ true
+
+module _ {rows : List ℕ} {first k from to : ℕ} {w : List ℕ} {e : ℕ} (block : first + k ≤ 32) (low : e < 32) (d : Dealt rows first k from to w) where
+  -- a member of the block that stands at e stands after e in w, if it does not stand at e there: before e, it would stand twice
+  stands-later : (a : List ℕ) → Dealt rows first k from to a → Agrees a w e → getD a e 0 < getD w e 0 → getD a e 0 < 32 → Later w (getD a e 0) e to
+  stands-later a da g less small =
+      let v = getD a e 0 in
+      let b = fits-block rows first k from to v e (dealt-fits da e low (omega arith)) in
+      let f = between-from first (first + k) v b in
+      let t = between-to first (first + k) v b in
+      let one = d .once v f t in
+      let s = cnt-place v w (omega arith) in
+      let i = s .place in
+      let here = s .here in
+      let long = d .size in
+      let inside : i < 32 = omega (arith, s .early) in
+      let fit = fits-within rows first k from to _ i (dealt-fits d i inside (omega arith)) in
+      ⊎-elim
+      (λ (l : i < e).
+      let long' = da .size in
+      let two = cnt-two a i e l (omega arith) (g i l ∙ here) in
+      let once = da .once v f t in
+      absurd (omega arith))
+      (λ (l : e ≤ i). ⊎-elim
+      (λ (q : i ≡ e). let z : getD w i 0 ≡ getD w e 0 = ap (λ (j : ℕ). getD w j 0) q in absurd (omega arith))
+      (λ (q : i ≡ e → ⊥). record { place = i; after = omega arith; early = between-to from to i (within-piece rows from to _ i fit); here = here })
+      (same? i e))
+      (below? i e)
+
+  pub going-start : {C : ℕ → Bool} → Rivals rows w e to C → Going rows first k from to w e C
+  going-start h = record {
+    going = λ a da g less. ⊎-elim
+        (λ (q : getD a e 0 ≡ 255). ⊎-elim
+        (λ (r : getD w e 0 ≡ 255). absurd (omega arith))
+        (λ (r : (first ≤ getD w e 0) × (getD w e 0 < first + k) × (may rows (getD w e 0) e ≡ true)). let z = r .1 in absurd (omega arith))
+        (byte d e low))
+        (λ (q : (first ≤ getD a e 0) × (getD a e 0 < first + k) × (may rows (getD a e 0) e ≡ true)).
+        let z = q .1 in
+        h .complete (getD a e 0) (record { low = omega arith; below = less; may-take = q .2; later = stands-later a da g less (omega arith) }))
+        (byte da e low);
+  }
+
+  module _ {C : ℕ → Bool} (h : Going rows first k from to w e C) where
+    -- m cannot have e
+    pub going-fail : {S : ℕ → Bool} {m : ℕ} {x : List ℕ} {found : Bool} → Flipped C m S → found ≡ false → Exchanged rows first k from to w e m found x → Going rows first k from to w e S
+    going-fail {S} {m} f z t = record {
+      going = λ a da g less.
+          f .other (getD a e 0) (λ q. t .fails z a (record { dealt = da; agrees = g; takes = q })) ∙ h .going a da g less;
+    }
+
+    -- the least of C can have e
+    pub going-works : {m : ℕ} {x : List ℕ} {found : Bool} → m < getD w e 0 → ((j : ℕ) → j < m → C j ≡ false) → found ≡ true → Exchanged rows first k from to w e m found x
+        → Improved rows first k from to w e x
+    going-works {m} {x} below least z t =
+        let r = t .works z in
+        let here = r .takes in
+        record {
+          dealt = r .dealt;
+          agrees = r .agrees;
+          least = λ a da g. ⊎-elim
+              (λ (l : getD a e 0 < m). absurd (clash (h .going a da g (omega arith)) (least (getD a e 0) l)))
+              (λ (l : m ≤ getD a e 0). omega arith)
+              (below? (getD a e 0) m);
+        }
+
+    -- none is left
+    pub going-done : ((j : ℕ) → C j ≡ false) → Improved rows first k from to w e w
+    going-done none = record {
+      dealt = d;
+      agrees = λ i l. refl;
+      least = λ a da g. ⊎-elim
+          (λ (l : getD a e 0 < getD w e 0). absurd (clash (h .going a da g l) (none (getD a e 0))))
+          (λ (l : getD w e 0 ≤ getD a e 0). l)
+          (below? (getD a e 0) (getD w e 0));
+    }
+
+  -- a rival is of the block, and may be exchanged
+  pub rival-asks : {m : ℕ} → from ≤ e → to ≤ 32 → Rival rows w e to m → Asks rows first k from to w e m
+  rival-asks {m} after end r =
+      let l = r .later in
+      let z = r .low in
+      let early = l .early in
+      let long = d .size in
+      let c : 1 ≤ cnt m w = subst (λ (v : ℕ). 1 ≤ cnt v w) (l .here) (cnt-at w (l .place) (omega arith)) in
+      record { dealt = d; after = after; member = dealt-block d m (omega arith) c; may-take = r .may-take; other = λ q. omega (arith, r .below) }
+
+-- ---- left to right
+outside : {rows : List ℕ} {first k from to : ℕ} {a : List ℕ} → Dealt rows first k from to a → (i : ℕ) → i < 32 → (between from to i ≡ true → ⊥) → getD a i 0 ≡ 255
+outside {rows} {first} {k} {from} {to} d i l n = ⊎-elim (λ q. q) (λ f. absurd (n (within-piece rows from to _ i (fits-within rows first k from to _ i f)))) (d .right i l)
+
+pub dealt-outside : {rows : List ℕ} {first k from to : ℕ} {a : List ℕ} → Dealt rows first k from to a → (i : ℕ) → i < 32 → between from to i ≡ false → getD a i 0 ≡ 255
+dealt-outside d i l n = outside d i l (λ p. clash p n)
+
+pub leads-start : {rows : List ℕ} {first k from to : ℕ} {w : List ℕ} → from ≤ 32 → Dealt rows first k from to w → Leads rows first k from to w from
+leads-start {rows} {first} {k} {from} {to} end d = record {
+  dealt = d;
+  leads = λ a da. inl (λ i l.
+      let n : between from to i ≡ true → ⊥ = λ b. let z = between-from from to i b in omega arith in
+      outside da i (omega arith) n ∙ sym (outside d i (omega arith) n));
+}
+
+pub leads-step : {rows : List ℕ} {first k from to : ℕ} {w x : List ℕ} {e : ℕ} → Leads rows first k from to w e → Improved rows first k from to w e x → Leads rows first k from to x (e + 1)
+leads-step {rows} {first} {k} {from} {to} {w} {x} {e} h m = record {
+  dealt = m .dealt;
+  leads = λ a d. ⊎-elim
+      (λ (g : Agrees a w e).
+      let l = m .least a d g in
+      ⊎-elim
+      (λ (q : getD x e 0 < getD a e 0). inr (record { place = e; early = omega arith; agrees = λ i z. g i z ∙ sym (m .agrees i z); smaller = q }))
+      (λ (q : getD a e 0 ≤ getD x e 0). inl (λ i z. ⊎-elim
+      (λ (r : i < e). g i r ∙ sym (m .agrees i r))
+      (λ (r : e ≤ i).
+      let s : i ≡ e = omega arith in
+      let u : getD a e 0 ≡ getD x e 0 = omega arith in
+      ap (λ (j : ℕ). getD a j 0) s ∙ u ∙ ap (λ (j : ℕ). getD x j 0) (sym s))
+      (below? i e)))
+      (below? (getD x e 0) (getD a e 0)))
+      (λ (s : Sooner w a e).
+      let early = s .early in
+      inr (record {
+        place = s .place;
+        early = omega arith;
+        agrees = λ i z. s .agrees i z ∙ sym (m .agrees i (omega arith));
+        smaller = subst (λ (v : ℕ). v < getD a (s .place) 0) (sym (m .agrees (s .place) early)) (s .smaller);
+      }))
+      (h .leads a d);
+}
+
+-- the last place: there is none after it to change with
+pub leads-last : {rows : List ℕ} {first k from to : ℕ} {w : List ℕ} {e : ℕ} → first + k ≤ 32 → to ≤ 32 → to ≤ e + 1 → e ≤ to → Leads rows first k from to w e → Leads rows first k from to w to
+leads-last {rows} {first} {k} {from} {to} {w} {e} block end l z h = ⊎-elim
+    (λ (q : e ≡ to). subst (λ (i : ℕ). Leads rows first k from to w i) q h)
+    (λ (n : e ≡ to → ⊥).
+    let q : e + 1 ≡ to = omega arith in
+    let r : Rivals rows w e to (λ v. false) = subst (λ (i : ℕ). Rivals rows w e i (λ v. false)) q (rivals-none (λ v. refl)) in
+    let low : e < 32 = omega arith in
+    subst (λ (i : ℕ). Leads rows first k from to w i) q (leads-step h (going-done block low (h .dealt) (going-start block low (h .dealt) r) (λ j. refl))))
+    (same? e to)

@@ -1,0 +1,128 @@
+-- Groups of members whose elements are too few: what a failed search shows, by counting. Assumes nothing.
+-- blocked-never: no list that differs from w only by what members may take serves the group of a failed search.
+-- blocked-short: the group of a failed search is short of elements. short-never: where a group is short there is no assignment.
+use mathlib.Core.Path.{_≡_, refl, sym, ap, _∙_, subst}
+use mathlib.Core.Logic.{_⊎_, inl, inr, ⊎-elim}
+use mathlib.Core.Bool.{Bool, true, false, _&&_, _||_}
+use mathlib.Core.List.{List, [], _∷_}
+use Prim.Native.Nat.{ℕ, zero, suc, _+_, _-_, _≤_, _<_}
+use native.Mathlib.Nat.{not-suc-le-zero}
+use native.Mathlib.Omega.{arith}
+use lib.Dec.{eqb}
+use lib.ListN.{length, getD}
+use borrow.Author.Tests.{eqb-true}
+use Rattle.assign.specs.Rows.{may, between, cnt, count, anyBelow}
+use Rattle.assign.specs.Assignment.{takes, Assigns, wanted, joined, Short}
+use Rattle.assign.specs.Search.{within, Owned, Blocked}
+use Rattle.assign.proofs.Lemmas.{same?, below?, holds?, clash, and-left, and-right, both, one-of, or-left, or-right, between-in, between-from, between-to}
+use Rattle.assign.proofs.Counting.{places, count-places, places-count, places-le, places-into, places-onto}
+
+-- ---- a member below n
+pub any-found : (P : ℕ → Bool) (n : ℕ) → anyBelow P n ≡ true → (v : ℕ) × (v < n) × (P v ≡ true)
+unfolding anyBelow
+any-found P zero h = absurd (clash h refl)
+any-found P (suc n) h = ⊎-elim
+    (λ (p : P n ≡ true). (n, omega arith, p))
+    (λ (p : anyBelow P n ≡ true). let f = any-found P n p in (f .0, omega (arith, f .1), f .2))
+    (one-of (P n) (anyBelow P n) h)
+
+pub any-in : (P : ℕ → Bool) (n v : ℕ) → v < n → P v ≡ true → anyBelow P n ≡ true
+unfolding anyBelow
+any-in P zero v l p = absurd (not-suc-le-zero l)
+any-in P (suc n) v l p = ⊎-elim
+    (λ (q : v ≡ n). or-left (P n) (anyBelow P n) (rw q at p))
+    (λ (q : v ≡ n → ⊥). or-right (P n) (anyBelow P n) (any-in P n v (omega arith) p))
+    (same? v n)
+
+count-up : (P : ℕ → Bool) (n d : ℕ) → count P n ≤ count P (d + n)
+unfolding count
+count-up P n zero = let z : 0 + n ≡ n = omega arith in let e = ap (λ (j : ℕ). count P j) z in omega arith
+count-up P n (suc d) = let ih = count-up P n d in let z : suc d + n ≡ suc (d + n) = omega arith in let e = ap (λ (j : ℕ). count P j) z in omega arith
+
+count-zero : (P : ℕ → Bool) → count P 0 ≡ 0
+unfolding count
+count-zero P = refl
+
+pub count-mono : (P : ℕ → Bool) (n k : ℕ) → n ≤ k → count P n ≤ count P k
+count-mono P n k l = let u = count-up P n (k - n) in let z : k - n + n ≡ k = omega arith in let e = ap (λ (j : ℕ). count P j) z in omega arith
+
+-- ---- what a byte of an assignment is
+pub takes-inv : (rows : List ℕ) (first k e x : ℕ) → takes rows first k e x ≡ true → (x ≡ 255) ⊎ ((between first (first + k) x ≡ true) × (may rows x e ≡ true))
+unfolding takes
+takes-inv rows first k e x h = ⊎-elim
+    (λ (p : eqb x 255 ≡ true). inl (eqb-true x 255 p))
+    (λ (p : (between first (first + k) x && may rows x e) ≡ true). inr (and-left (between first (first + k) x) (may rows x e) p, and-right (between first (first + k) x) (may rows x e) p))
+    (one-of (eqb x 255) (between first (first + k) x && may rows x e) h)
+
+-- ---- the group of a failed search
+module _ {ok : ℕ → ℕ → Bool} {w : List ℕ} {m : ℕ} (b : Blocked ok w m) (size : length w ≡ 32) (low : m < 32) (none : cnt m w ≡ 0)
+    (once : (v : ℕ) → v < 32 → cnt v w ≤ 1) where
+  pub blocked-never : (a : List ℕ) → length a ≡ 32
+      → ((e : ℕ) → e < 32 → getD a e 0 < 32 → (getD a e 0 ≡ getD w e 0) ⊎ (ok (getD a e 0) e ≡ true))
+      → 1 ≤ cnt m a → ((v : ℕ) → v < 32 → 1 ≤ cnt v w → 1 ≤ cnt v a) → ⊥
+  blocked-never a len moved self all =
+      let group = b .group in
+      let x = places-le group 32 a w (len ∙ sym size) (λ e l z s. ⊎-elim
+      (λ (q : getD a e 0 ≡ getD w e 0). (rw (← q) z, rw (← q) s))
+      (λ (o : ok (getD a e 0) e ≡ true). let h = b .closed _ s e (omega arith) o in (h .low, h .seen))
+      (moved e (omega arith) z)) in
+      let y = places-count group 32 w m low (b .self) none (λ v l s. once v l) in
+      let z = count-places group 32 a (λ v l s. ⊎-elim
+      (λ (p : v ≡ m). rw p self)
+      (λ (p : (v < 32) × (1 ≤ cnt v w)). all v l (p .1))
+      (b .holders v s)) in
+      omega arith
+
+within-in : (rows : List ℕ) (from to v e : ℕ) → may rows v e ≡ true → between from to e ≡ true → within rows from to v e ≡ true
+unfolding within
+within-in rows from to v e = both (may rows v e) (between from to e)
+
+want-inv : (rows : List ℕ) (group : ℕ → Bool) (e : ℕ) → wanted rows group e ≡ true → (v : ℕ) × (group v ≡ true) × (may rows v e ≡ true)
+unfolding wanted
+want-inv rows group e h =
+    let f = any-found (λ v. group v && may rows v e) 32 h in
+    (f .0, and-left (group (f .0)) (may rows (f .0) e) (f .2), and-right (group (f .0)) (may rows (f .0) e) (f .2))
+
+want-in : (rows : List ℕ) (group : ℕ → Bool) (v e : ℕ) → v < 32 → group v ≡ true → may rows v e ≡ true → wanted rows group e ≡ true
+unfolding wanted
+want-in rows group v e l g r = any-in (λ v. group v && may rows v e) 32 v l (both (group v) (may rows v e) g r)
+
+pub blocked-short : {rows : List ℕ} {first k from to : ℕ} {w : List ℕ} {m : ℕ} (b : Blocked (within rows from to) w m) → length w ≡ 32 → m < 32 → cnt m w ≡ 0
+    → ((v : ℕ) → v < 32 → cnt v w ≤ 1) → ((v : ℕ) → (v ≡ m) ⊎ ((v < 32) × (1 ≤ cnt v w)) → between first (first + k) v ≡ true)
+    → Short rows first k from to
+blocked-short {rows} {first} {k} {from} {to} {w} {m} b size low none once inside =
+    let group = b .group in
+    let E : ℕ → Bool = λ e. between from to e && wanted rows group e in
+    let x = places-onto group E 32 w 0 (λ i l h.
+    let h' : E i ≡ true = subst (λ (j : ℕ). E j ≡ true) (omega arith) h in
+    let u = want-inv rows group i (and-right (between from to i) (wanted rows group i) h') in
+    let o = b .closed (u .0) (u .1) i (omega arith) (within-in rows from to (u .0) i (u .2) (and-left (between from to i) (wanted rows group i) h')) in
+    (o .low, o .seen)) in
+    let y = places-count group 32 w m low (b .self) none (λ v l s. once v l) in
+    let z = count-zero E in
+    let n : 0 + length w ≡ 32 = omega arith in
+    let e : count E (0 + length w) ≡ count E 32 = ap (λ (j : ℕ). count E j) n in
+    record { group = group; inside = λ v g. inside v (b .holders v g); few = omega arith }
+
+-- ---- where a group is short there is no assignment
+pub short-never : {rows : List ℕ} {first k from to : ℕ} → Short rows first k from to → first + k ≤ 32 → from ≤ to → to ≤ 32
+    → (a : List ℕ) → Assigns rows first k from to a → ⊥
+short-never {rows} {first} {k} {from} {to} s block piece end a h =
+    let group = s .group in
+    let E : ℕ → Bool = λ e. between from to e && wanted rows group e in
+    let size = h .size in
+    let x = places-into group E 32 a from (λ i l z g.
+    let r : may rows (getD a i 0) (from + i) ≡ true = ⊎-elim
+    (λ (q : getD a i 0 ≡ 255). absurd (omega arith))
+    (λ (q : (between first (first + k) (getD a i 0) ≡ true) × (may rows (getD a i 0) (from + i) ≡ true)). q .1)
+    (takes-inv rows first k (from + i) (getD a i 0) (h .right i l)) in
+    both (between from to (from + i)) (wanted rows group (from + i)) (between-in from to (from + i) (omega arith) (omega arith)) (want-in rows group (getD a i 0) (from + i) z g r)) in
+    let y = count-places group 32 a (λ v l g.
+    let i = s .inside v g in
+    let o = h .once v (between-from first (first + k) v i) (between-to first (first + k) v i) in
+    omega arith) in
+    let n : from + length a ≡ to = omega arith in
+    let e : count E (from + length a) ≡ count E to = ap (λ (j : ℕ). count E j) n in
+    let u = count-mono E to 32 end in
+    let f = s .few in
+    omega arith

@@ -1,0 +1,13 @@
+pub mod Lemmas
+pub mod Laws
+pub mod Counting
+pub mod Masks
+pub mod Chains
+pub mod Groups
+pub mod Deals
+pub mod Firsts
+pub mod Pieces
+pub mod Tests
+pub mod Claims
+pub mod Unique
+pub mod Examples

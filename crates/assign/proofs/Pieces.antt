@@ -1,0 +1,207 @@
+-- Assignments of a piece, and the same as 32 bytes with 255 around. Assumes nothing.
+use mathlib.Core.Path.{_≡_, refl, sym, ap, _∙_, subst}
+use mathlib.Core.Logic.{_⊎_, inl, inr, ⊎-elim}
+use mathlib.Core.Bool.{Bool, true, false, _&&_, _||_}
+use mathlib.Core.List.{List, [], _∷_, _++_}
+use Prim.Native.Nat.{ℕ, zero, suc, _+_, _-_, _≤_, _<_, min}
+use native.Mathlib.Omega.{arith}
+use lib.Dec.{eqb}
+use lib.ListN.{length, getD, take, drop, replicate, length-append, length-take, length-drop, length-replicate, getD-replicate, take-append-drop, List·getD-append}
+use lib.Seq.{slice, length-slice, getD-take, getD-drop, getD-append-add, ext-getD}
+use borrow.Author.Tests.{eq-eqb}
+use Rattle.assign.specs.Rows.{may, between, cnt}
+use Rattle.assign.specs.Order.{earlier, First}
+use Rattle.assign.specs.Assignment.{takes, Assigns, Short, Answer}
+use Rattle.assign.specs.Search.{fits, within, Dealt, Agrees, Sooner, Leads}
+use Rattle.assign.proofs.Lemmas.{same?, below?, clash, both, or-left, or-right, not-so, between-in, between-from, between-to}
+use Rattle.assign.proofs.Laws.{earlier-irreflexive, earlier-asymmetric, earlier-at}
+use Rattle.assign.proofs.Counting.{cnt-append, cnt-replicate, cnt-none}
+use Rattle.assign.proofs.Groups.{takes-inv, short-never}
+use Rattle.assign.proofs.Deals.{within-may, within-piece, within-in, fits-block, fits-within, fits-in}
+use Rattle.assign.proofs.Firsts.{dealt-outside, byte}
+
+-- ---- what a byte of an assignment is
+pub takes-spare : (rows : List ℕ) (first k e x : ℕ) → x ≡ 255 → takes rows first k e x ≡ true
+unfolding takes
+takes-spare rows first k e x q = or-left (eqb x 255) (between first (first + k) x && may rows x e) (eq-eqb x 255 q)
+
+pub takes-member : (rows : List ℕ) (first k e x : ℕ) → between first (first + k) x ≡ true → may rows x e ≡ true → takes rows first k e x ≡ true
+unfolding takes
+takes-member rows first k e x b r = or-right (eqb x 255) (between first (first + k) x && may rows x e) (both (between first (first + k) x) (may rows x e) b r)
+
+-- ---- a piece of a list
+pub slice-at : (from to : ℕ) (w : List ℕ) (i : ℕ) → i < to - from → getD (slice from to w) i 0 ≡ getD w (from + i) 0
+slice-at from to w i l = getD-drop from (take to w) i 0 ∙ getD-take to w (from + i) 0 (omega arith)
+
+cnt-slice : (v from to : ℕ) (w : List ℕ) → from ≤ to → to ≤ length w → ((i : ℕ) → i < length w → between from to i ≡ false → getD w i 0 ≡ v → ⊥) → cnt v (slice from to w) ≡ cnt v w
+cnt-slice v from to w l k out =
+    let whole = ap (λ (x : List ℕ). cnt v x) (take-append-drop to w) in
+    let first-part = ap (λ (x : List ℕ). cnt v x) (take-append-drop from (take to w)) in
+    let a = cnt-append v (take to w) (drop to w) in
+    let b = cnt-append v (take from (take to w)) (slice from to w) in
+    let m = length-take to w in
+    let left : cnt v (take from (take to w)) ≡ 0 = cnt-none v (take from (take to w)) (λ e z q.
+    let n = length-take from (take to w) in
+    let e1 : getD (take from (take to w)) e 0 ≡ getD w e 0 = getD-take from (take to w) e 0 (omega arith) ∙ getD-take to w e 0 (omega arith) in
+    out e (omega arith) (not-so (between from to e) (λ b. let f = between-from from to e b in omega arith)) (sym e1 ∙ q)) in
+    let right : cnt v (drop to w) ≡ 0 = cnt-none v (drop to w) (λ e z q.
+    let n = length-drop to w in
+    out (to + e) (omega arith) (not-so (between from to (to + e)) (λ b. let f = between-to from to (to + e) b in omega arith)) (sym (getD-drop to w e 0) ∙ q)) in
+    omega arith
+
+-- the piece of an assignment of 32 bytes
+module _ {rows : List ℕ} {first k from to : ℕ} {w : List ℕ} (block : first + k ≤ 32) (piece : from ≤ to) (end : to ≤ 32) (d : Dealt rows first k from to w) where
+  pub dealt-assigns : Assigns rows first k from to (slice from to w)
+  dealt-assigns =
+      let size = d .size in
+      let long = length-slice from to w (omega arith) in
+      record {
+        size = long;
+        right = λ i l.
+            let q : getD (slice from to w) i 0 ≡ getD w (from + i) 0 = slice-at from to w i (omega arith) in
+            subst (λ (x : ℕ). takes rows first k (from + i) x ≡ true) (sym q) (⊎-elim
+            (λ (z : getD w (from + i) 0 ≡ 255). takes-spare rows first k (from + i) _ z)
+            (λ (f : fits rows first k from to (getD w (from + i) 0) (from + i) ≡ true).
+            takes-member rows first k (from + i) _ (fits-block rows first k from to _ (from + i) f) (within-may rows from to _ (from + i) (fits-within rows first k from to _ (from + i) f)))
+            (d .right (from + i) (omega arith)));
+        once = λ m f t.
+            let c = cnt-slice m from to w piece (omega arith) (λ i l o q. let z = dealt-outside d i (omega arith) o in omega arith) in
+            c ∙ d .once m f t;
+      }
+
+-- ---- 255 around a list
+abbrev pad : ℕ → ℕ → List ℕ → List ℕ
+pad from to a = replicate from 255 ++ (a ++ replicate (32 - to) 255)
+
+module _ (from to : ℕ) (a : List ℕ) (size : length a ≡ to - from) (piece : from ≤ to) (end : to ≤ 32) where
+  pad-size : length (pad from to a) ≡ 32
+  pad-size =
+      let x = length-append (replicate from 255) (a ++ replicate (32 - to) 255) in
+      let y = length-append a (replicate (32 - to) 255) in
+      let p = length-replicate {A = ℕ} from 255 in
+      let q = length-replicate {A = ℕ} (32 - to) 255 in
+      omega arith
+
+  pad-left : (i : ℕ) → i < from → getD (pad from to a) i 0 ≡ 255
+  pad-left i l =
+      let p = length-replicate {A = ℕ} from 255 in
+      List·getD-append (replicate from 255) (a ++ replicate (32 - to) 255) 0 i (omega arith) ∙ getD-replicate {A = ℕ} from i 255 0 l
+
+  pad-rest : (i : ℕ) → getD (pad from to a) (from + i) 0 ≡ getD (a ++ replicate (32 - to) 255) i 0
+  pad-rest i =
+      let p = length-replicate {A = ℕ} from 255 in
+      ap (λ (n : ℕ). getD (pad from to a) (n + i) 0) (sym p) ∙ getD-append-add (replicate from 255) (a ++ replicate (32 - to) 255) i 0
+
+  pad-at : (i : ℕ) → i < length a → getD (pad from to a) (from + i) 0 ≡ getD a i 0
+  pad-at i l = pad-rest i ∙ List·getD-append a (replicate (32 - to) 255) 0 i l
+
+  pad-right : (i : ℕ) → i < 32 - to → getD (pad from to a) (to + i) 0 ≡ 255
+  pad-right i l =
+      let z : to + i ≡ from + (length a + i) = omega arith in
+      ap (λ (n : ℕ). getD (pad from to a) n 0) z ∙ pad-rest (length a + i) ∙ getD-append-add a (replicate (32 - to) 255) i 0 ∙ getD-replicate {A = ℕ} (32 - to) i 255 0 l
+
+  pad-cnt : (v : ℕ) → v < 255 → cnt v (pad from to a) ≡ cnt v a
+  pad-cnt v l =
+      let x = cnt-append v (replicate from 255) (a ++ replicate (32 - to) 255) in
+      let y = cnt-append v a (replicate (32 - to) 255) in
+      let p = cnt-replicate v 255 (λ q. omega arith) from in
+      let q = cnt-replicate v 255 (λ q. omega arith) (32 - to) in
+      omega arith
+
+pub assigns-dealt : {rows : List ℕ} {first k from to : ℕ} {a : List ℕ} → first + k ≤ 32 → from ≤ to → to ≤ 32 → Assigns rows first k from to a → Dealt rows first k from to (pad from to a)
+assigns-dealt {rows} {first} {k} {from} {to} {a} block piece end h =
+    let size = h .size in
+    record {
+      size = pad-size from to a size piece end;
+      right = λ e l. ⊎-elim
+          (λ (z : e < from). inl (pad-left from to a size piece end e z))
+          (λ (z : from ≤ e). ⊎-elim
+          (λ (y : e < to).
+          let i = e - from in
+          let q : from + i ≡ e = omega arith in
+          let p : getD (pad from to a) (from + i) 0 ≡ getD a i 0 = pad-at from to a size piece end i (omega arith) in
+          let p' : getD (pad from to a) e 0 ≡ getD a i 0 = subst (λ (j : ℕ). getD (pad from to a) j 0 ≡ getD a i 0) q p in
+          ⊎-elim
+          (λ (t : getD a i 0 ≡ 255). inl (p' ∙ t))
+          (λ (t : (between first (first + k) (getD a i 0) ≡ true) × (may rows (getD a i 0) (from + i) ≡ true)).
+          let r : may rows (getD a i 0) e ≡ true = subst (λ (j : ℕ). may rows (getD a i 0) j ≡ true) q (t .1) in
+          inr (subst (λ (x : ℕ). fits rows first k from to x e ≡ true) (sym p') (fits-in rows first k from to (getD a i 0) e (t .0) (within-in rows from to (getD a i 0) e r z y))))
+          (takes-inv rows first k (from + i) (getD a i 0) (h .right i (omega arith))))
+          (λ (y : to ≤ e).
+          let i = e - to in
+          let q : to + i ≡ e = omega arith in
+          inl (subst (λ (j : ℕ). getD (pad from to a) j 0 ≡ 255) q (pad-right from to a size piece end i (omega arith))))
+          (below? e to))
+          (below? e from);
+      once = λ m f t. pad-cnt from to a size piece end m (omega arith) ∙ h .once m f t;
+    }
+
+-- ---- the answers
+module _ {rows : List ℕ} {first k from to : ℕ} {w : List ℕ} (block : first + k ≤ 32) (piece : from ≤ to) (end : to ≤ 32) where
+  -- every assignment is as w or comes later: the piece of w is the first
+  pub leads-first : Leads rows first k from to w to → First (Assigns rows first k from to) (slice from to w)
+  leads-first h =
+      let d = h .dealt in
+      let long = d .size in
+      let n = length-slice from to w (omega arith) in
+      record {
+        holds = dealt-assigns block piece end d;
+        least = λ a g.
+            let size = g .size in
+            let at : (i : ℕ) → i < to - from → getD (slice from to w) i 0 ≡ getD w (from + i) 0 = slice-at from to w in
+            let pa : (i : ℕ) → i < to - from → getD (pad from to a) (from + i) 0 ≡ getD a i 0 = λ i l. pad-at from to a size piece end i (omega arith) in
+            ⊎-elim
+            (λ (s : Agrees (pad from to a) w to).
+            let same : a ≡ slice from to w = ext-getD 0 a (slice from to w) (size ∙ sym n) (λ i l.
+            sym (pa i (omega arith)) ∙ s (from + i) (omega arith) ∙ sym (at i (omega arith))) in
+            ap (λ (x : List ℕ). earlier x (slice from to w)) same ∙ earlier-irreflexive (slice from to w))
+            (λ (s : Sooner w (pad from to a) to).
+            let p = s .place in
+            let early = s .early in
+            let small = s .smaller in
+            ⊎-elim
+            (λ (z : p < from).
+            let x = pad-left from to a size piece end p z in
+            let y = dealt-outside d p (omega arith) (not-so (between from to p) (λ b. let f = between-from from to p b in omega arith)) in
+            absurd (omega arith))
+            (λ (z : from ≤ p).
+            let i = p - from in
+            let q : from + i ≡ p = omega arith in
+            let x : getD (slice from to w) i 0 ≡ getD w p 0 = at i (omega arith) ∙ ap (λ (j : ℕ). getD w j 0) q in
+            let y : getD a i 0 ≡ getD (pad from to a) p 0 = sym (pa i (omega arith)) ∙ ap (λ (j : ℕ). getD (pad from to a) j 0) q in
+            earlier-asymmetric (slice from to w) a (earlier-at (slice from to w) a i (omega arith) (omega arith)
+            (λ j l. at j (omega arith) ∙ sym (s .agrees (from + j) (omega arith)) ∙ pa j (omega arith))
+            (omega arith)))
+            (below? p from))
+            (h .leads (pad from to a) (assigns-dealt block piece end g));
+      }
+
+  pub answer-found : Leads rows first k from to w to → Answer rows first k from to true w
+  answer-found h = record {
+    best = λ _. leads-first h;
+    none = λ q. absurd (clash refl q);
+    short = λ q. absurd (clash refl q);
+    size = h .dealt .size;
+    outside = dealt-outside (h .dealt);
+    blank = λ q. absurd (clash refl q);
+  }
+
+  pub answer-none : w ≡ replicate 32 255 → Short rows first k from to → Answer rows first k from to false w
+  answer-none q s = record {
+    best = λ p. absurd (clash p refl);
+    none = λ _. short-never s block piece end;
+    short = λ _. s;
+    size = ap (λ (x : List ℕ). length x) q ∙ length-replicate {A = ℕ} 32 255;
+    outside = λ i l _. ap (λ (x : List ℕ). getD x i 0) q ∙ getD-replicate {A = ℕ} 32 i 255 0 l;
+    blank = λ _. q;
+  }
+
+-- a block of no members has one assignment: all is spare
+none-byte : {rows : List ℕ} {first k from to : ℕ} {a : List ℕ} → k ≡ 0 → Dealt rows first k from to a → (i : ℕ) → i < 32 → getD a i 0 ≡ 255
+none-byte {rows} {first} {k} {from} {to} {a} n d i l = ⊎-elim
+    (λ (q : getD a i 0 ≡ 255). q)
+    (λ (q : (first ≤ getD a i 0) × (getD a i 0 < first + k) × (may rows (getD a i 0) i ≡ true)). let y = q .0 in let z = q .1 in absurd (omega arith))
+    (byte d i l)
+
+pub leads-none : {rows : List ℕ} {first k from to : ℕ} {w : List ℕ} → k ≡ 0 → to ≤ 32 → Dealt rows first k from to w → Leads rows first k from to w to
+leads-none n end d = record { dealt = d; leads = λ a da. inl (λ i l. none-byte n da i (omega arith) ∙ sym (none-byte n d i (omega arith))) }

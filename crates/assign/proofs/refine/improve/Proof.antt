@@ -1,0 +1,85 @@
+-- `improve` meets its contract. The invariant: `left` has only rivals, and an assignment that is as w before e and has a smaller byte at e has one of `left` there.
+-- The measure is how many rivals are left. Assumes nothing.
+use mathlib.Core.Path.{_≡_, refl, sym, ap, _∙_}
+use mathlib.Core.Bool.{true}
+use Prim.Native.Nat.{ℕ, _+_, _-_, _<_, _≤_}
+use native.Mathlib.Omega.{arith}
+use lib.ListN.{getD}
+use borrow.Author.Needs.{needs}
+use Rattle.assign.specs.Rows.{bit, count}
+use Rattle.assign.specs.Search.{Dealt, Rival}
+use Rattle.assign.proofs.Masks.{bit-none}
+use Rattle.assign.proofs.Chains.{left-falls, flipped-down}
+use Rattle.assign.proofs.Firsts.{Going, going-start, going-fail, going-works, going-done, rival-asks}
+use Rattle.assign.proofs.refine.improve.Statement.{statement}
+use Rattle.assign.proofs.refine.improve.Tie as tie
+use Rattle.assign.proofs.refine.improve.Reads as reads
+use Rattle.assign.proofs.refine.improve.Lts as lts
+use Rattle.assign.proofs.visit.flip.Reads as flip-reads
+use Rattle.assign.proofs.visit.lowest.Reads as lowest-reads
+use Rattle.assign.proofs.refine.exchange.Reads as exchange-reads
+use Rattle.assign.proofs.refine.rivals.Reads as rivals-reads
+
+abbrev Inv-loop : tie.InvT-loop
+Inv-loop rows to w e left₀ left = ((m : ℕ) → bit left m ≡ true → Rival rows w e to m)
+    × ((first k from : ℕ) → first + k ≤ 32 → from ≤ e → Dealt rows first k from to w → Going rows first k from to w e (bit left))
+
+abbrev μ-loop : tie.MeasureT-loop
+μ-loop rows to w e left₀ left = count (bit left) 32
+
+rivals-requires : tie.Need-rivals-requires Inv-loop μ-loop
+rivals-requires c κs = c .pre
+
+loop-holds : tie.Need-loop-holds Inv-loop μ-loop
+loop-holds c =
+    let p = c .before .pre in
+    (c .rivals .ensures .sound, λ first k from block after dealt. going-start block (omega arith) dealt (c .rivals .ensures))
+
+lowest-requires : tie.Need-lowest-requires Inv-loop μ-loop
+lowest-requires c κs = omega (arith, c .loop-test .taken)
+
+-- the rival of this turn
+rival : (c : tie.After-lowest Inv-loop μ-loop) → let l = c .before .before in let a = l .before .before .args in
+    Rival (a .rows .now) (a .w) (a .e) (a .to) (c .lowest .result)
+rival c = c .before .before .loop .inv .0 (c .lowest .result) (c .lowest .ensures .inside)
+
+exchange-requires : tie.Need-exchange-requires Inv-loop μ-loop
+exchange-requires c κs = (c .before .before .before .before .pre .1, c .lowest .ensures .low, rival c .later)
+
+returns : tie.Need-returns Inv-loop μ-loop
+returns c =
+    let called = c .before .before in
+    let chosen = called .before in
+    let l = chosen .before .before in
+    let p = l .before .before .pre in
+    λ first k from block after dealt. going-works block (omega arith) dealt (l .loop .inv .1 first k from block after dealt) (rival chosen .below) (chosen .lowest .ensures .least)
+    (c .before .if1 .taken) (called .exchange .ensures first k from block (rival-asks block (omega arith) dealt after (p .1) (rival chosen)))
+
+flip-requires : tie.Need-flip-requires Inv-loop μ-loop
+flip-requires c κs = c .before .before .lowest .ensures .low
+
+loop-less : tie.Need-loop-less Inv-loop μ-loop
+loop-less c =
+    let lowest = c .before .before .before .lowest in
+    left-falls (lowest .result) (c .flip .ensures) (lowest .ensures .inside) (lowest .ensures .low) (λ j h. h)
+
+loop-again : tie.Need-loop-again Inv-loop μ-loop
+loop-again c =
+    let called = c .before .before in
+    let chosen = called .before in
+    let l = chosen .before .before in
+    let p = l .before .before .pre in (
+      λ m h. l .loop .inv .0 m (flipped-down (c .flip .ensures) (chosen .lowest .ensures .inside) m h),
+      λ first k from block after dealt. going-fail block (omega arith) dealt (l .loop .inv .1 first k from block after dealt) (c .flip .ensures) (c .before .if1 .left)
+          (called .exchange .ensures first k from block (rival-asks block (omega arith) dealt after (p .1) (rival chosen))),
+    )
+
+returns-2 : tie.Need-returns-2 Inv-loop μ-loop
+returns-2 c =
+    let l = c .before in
+    let p = l .before .before .pre in
+    λ first k from block after dealt. going-done block (omega arith) dealt (l .loop .inv .1 first k from block after dealt) (λ j. ap (λ (n : ℕ). bit n j) (c .loop-test .left) ∙ bit-none j)
+
+pub improve-spec : {M : Type 1} → statement M
+improve-spec =
+    tie.close (tie.spec Inv-loop μ-loop rivals-requires loop-holds lowest-requires exchange-requires returns flip-requires loop-less loop-again returns-2)

@@ -1,0 +1,107 @@
+-- `rivals` meets its contract. The invariant: `found` has the rivals whose place is before p. The measure is what is left of the piece.
+-- Assumes nothing.
+use mathlib.Core.Path.{_≡_, refl, sym, subst, _∙_}
+use mathlib.Core.Logic.{⊎-elim}
+use Prim.Native.Nat.{ℕ, _+_, _-_, _<_, _≤_, min}
+use native.Mathlib.Omega.{arith}
+use lib.ListN.{getD}
+use borrow.Author.Needs.{needs}
+use Rattle.assign.specs.Rows.{bit}
+use Rattle.assign.specs.Search.{Rivals}
+use Rattle.assign.proofs.Lemmas.{clash}
+use Rattle.assign.proofs.Masks.{bit-none, row-has}
+use Rattle.assign.proofs.Firsts.{rivals-none, rivals-skip, rivals-more}
+use Rattle.assign.proofs.refine.rivals.Statement.{statement}
+use Rattle.assign.proofs.refine.rivals.Tie as tie
+use Rattle.assign.proofs.refine.rivals.Reads as reads
+use Rattle.assign.proofs.refine.rivals.Lts as lts
+use Rattle.assign.proofs.mask.has.Reads as has-reads
+use Rattle.assign.proofs.mask.with.Reads as with-reads
+use Rattle.assign.proofs.refine.least.Reads as least-reads
+
+abbrev Inv-loop : tie.InvT-loop
+Inv-loop rows to e w bound found₀ p₀ found p = (e < p) × (p ≤ to) × Rivals rows w e p (bit found)
+
+abbrev μ-loop : tie.MeasureT-loop
+μ-loop rows to e w bound found₀ p₀ found p = to - p
+
+array-read-least : tie.Need-array-read-least Inv-loop μ-loop
+array-read-least c = omega arith
+
+least-requires : tie.Need-least-requires Inv-loop μ-loop
+least-requires c κs = search needs
+
+add-p : tie.Need-add-p Inv-loop μ-loop
+add-p c = omega arith
+
+loop-holds : tie.Need-loop-holds Inv-loop μ-loop
+loop-holds c = (omega arith, omega arith, rivals-none bit-none)
+
+cast-m : tie.Need-cast-m Inv-loop μ-loop
+cast-m c = omega arith
+
+array-read-m : tie.Need-array-read-m Inv-loop μ-loop
+array-read-m c = omega arith
+
+-- the holder of p is a member, and below the byte of e
+small : (c : tie.Then1 Inv-loop μ-loop) → let l = c .before .before in let a = l .before .before .args in
+    (getD (a .t3) (l .loop .p) 0 < 32) × (getD (a .t3) (l .loop .p) 0 < getD (a .t3) (a .e) 0)
+small c = let b = c .before .before .before .least .ensures in (omega (arith, c .if1 .taken), omega (arith, c .if1 .taken))
+
+cast-has : tie.Need-cast-has Inv-loop μ-loop
+cast-has c = let s = small c in omega arith
+
+mul-has : tie.Need-mul-has Inv-loop μ-loop
+mul-has c = let s = small c in omega arith
+
+element-copy-out-has : tie.Need-element-copy-out-has Inv-loop μ-loop
+element-copy-out-has c = small c .0
+
+has-requires : tie.Need-has-requires Inv-loop μ-loop
+has-requires c κs = let p = c .before .before .before .before .before .pre in omega (arith, p .0, p .1)
+
+with-requires : tie.Need-with-requires Inv-loop μ-loop
+with-requires c κs = small (c .before .before .before) .0
+
+add-p-2 : tie.Need-add-p-2 Inv-loop μ-loop
+add-p-2 c = omega arith
+
+loop-less : tie.Need-loop-less Inv-loop μ-loop
+loop-less c = omega arith
+
+loop-again : tie.Need-loop-again Inv-loop μ-loop
+loop-again c =
+    let l = c .before .before in
+    let a = l .before .before .args in
+    let i = l .loop .inv in
+    let m = getD (a .t3) (l .loop .p) 0 in
+    let b = l .before .least .ensures in
+    let again : ℕ → Type 0 = λ found. Rivals (a .rows .now) (a .t3) (a .e) (l .loop .p + 1) (bit found) in (
+      omega arith,
+      omega arith,
+      ⊎-elim
+          (λ w.
+          let s = small (record { before = c .before; if1 = w .0 }) in
+          subst again (sym (w .5)) (rivals-more (i .2) (w .4 .ensures) (record {
+            low = s .0;
+            below = s .1;
+            may-take = sym (row-has (a .rows .now) m (a .e) (w .2 .ensures)) ∙ w .3 .taken;
+            later = record { place = l .loop .p; after = i .0; early = omega arith; here = refl };
+          })))
+          (⊎-elim
+          (λ w. subst again (sym (w .4)) (rivals-skip (i .2) (λ r. clash (r .may-take) (sym (row-has (a .rows .now) m (a .e) (w .2 .ensures)) ∙ w .3 .left))))
+          (λ w. subst again (sym (w .1)) (rivals-skip (i .2) (λ r. let x = r .low in let y = r .below in omega (arith, w .0 .left)))))
+          (c .if1 .came),
+    )
+
+returns : tie.Need-returns Inv-loop μ-loop
+returns c =
+    let rivals = c .before .loop .inv .2 in
+    let done : c .before .loop .p ≡ c .before .before .before .args .to = omega arith in
+    rw done at rivals
+
+pub rivals-spec : {M : Type 1} → statement M
+rivals-spec =
+    tie.close
+    (tie.spec Inv-loop μ-loop array-read-least least-requires add-p loop-holds cast-m array-read-m cast-has mul-has element-copy-out-has has-requires with-requires
+    add-p-2 loop-less loop-again returns)

@@ -1,0 +1,106 @@
+// From an assignment to the first one in byte order: from left to right each element is given the least member that it can have.
+ghost use mathlib.Core.Path.{_≡_};
+ghost use Prim.Native.Nat.{ℕ, _+_, _<_, _≤_, min};
+ghost use Rattle.assign.specs.Rows.{bit, Stands};
+ghost use Rattle.assign.specs.Search.{Rivals, Last, Later, Asks, Exchanged, Dealt, Improved, Leads};
+use crate::Found;
+use crate::SPARE;
+use crate::chain::place;
+use crate::mask::has;
+use crate::mask::with;
+use crate::visit::flip;
+use crate::visit::lowest;
+
+// The lesser of two.
+fn least(a: u8, b: u8) -> u8
+    ensures { λ r. ⌜ r ≡ min a b ⌝ }
+{
+    if a < b { a } else { b }
+}
+
+// The members with a place after e that may take e and are below its byte: who can make the list come earlier.
+fn rivals(rows: &[u32; 32], to: u8, w: [u8; 32], e: u8) -> u32
+    requires { ⌜ (e < to) × (to ≤ 32) ⌝ }
+    ensures { λ r. ⌜ Rivals (now (rows .entry)) w e to (bit r) ⌝ }
+{
+    let bound = least(w[e as usize], 32);
+    let mut found: u32 = 0;
+    let mut p = e + 1;
+    while p < to {
+        let m = w[p as usize];
+        if m < bound {
+            if has(rows[m as usize], e) {
+                found = with(found, m);
+            }
+        }
+        p += 1;
+    }
+    found
+}
+
+// The last place before `to` that holds m.
+fn place_of(w: [u8; 32], m: u8, to: u8) -> u8
+    requires { ⌜ (to ≤ 32) × Stands m w to ⌝ }
+    ensures { λ r. ⌜ Last w m to r ⌝ }
+{
+    let mut p = to - 1;
+    while w[p as usize] != m {
+        p -= 1;
+    }
+    p
+}
+
+// Gives e to m, who has a later place: that place is spare then, and whom e belonged to is served by the places after e.
+// Where that cannot be done, w stays as it was.
+fn exchange(rows: &[u32; 32], to: u8, w: [u8; 32], e: u8, m: u8) -> Found
+    requires { ⌜ (to ≤ 32) × (m < 32) × Later w m e to ⌝ }
+    ensures { λ r. ⌜ ((first k from : ℕ) → first + k ≤ 32 → Asks (now (rows .entry)) first k from to w e m → Exchanged (now (rows .entry)) first k from to w e m (r .found) (r .w)) ⌝ }
+{
+    let p = place_of(w, m, to);
+    let owner = w[e as usize];
+    let mut x = w;
+    x[p as usize] = SPARE;
+    x[e as usize] = m;
+    if owner >= 32 {
+        return Found { found: true, w: x };
+    }
+    let served = place(rows, x, owner, e + 1, to);
+    if served.found {
+        return served;
+    }
+    Found { found: false, w: w }
+}
+
+// Gives e to the least member that it can have while the places before e stay as they are.
+fn improve(rows: &[u32; 32], to: u8, w: [u8; 32], e: u8) -> [u8; 32]
+    requires { ⌜ (e < to) × (to ≤ 32) ⌝ }
+    ensures { λ r. ⌜ ((first k from : ℕ) → first + k ≤ 32 → from ≤ e → Dealt (now (rows .entry)) first k from to w → Improved (now (rows .entry)) first k from to w e r) ⌝ }
+{
+    let mut left = rivals(rows, to, w, e);
+    while left != 0 {
+        let m = lowest(left);
+        let c = exchange(rows, to, w, e, m);
+        if c.found {
+            let x = c.w;
+            return x;
+        }
+        left = flip(left, m);
+    }
+    w
+}
+
+// The first assignment, from any.
+pub fn refine(rows: &[u32; 32], from: u8, to: u8, w: [u8; 32]) -> [u8; 32]
+    requires { ⌜ (from ≤ to) × (to ≤ 32) ⌝ }
+    ensures { λ r. ⌜ ((first k : ℕ) → first + k ≤ 32 → Dealt (now (rows .entry)) first k from to w → Leads (now (rows .entry)) first k from to r to) ⌝ }
+{
+    let mut x = w;
+    let mut e = from;
+    // the last element has no place after it to change with
+    while e + 1 < to {
+        let y = improve(rows, to, x, e);
+        x = y;
+        e += 1;
+    }
+    x
+}

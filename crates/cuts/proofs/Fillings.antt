@@ -1,0 +1,410 @@
+-- Fillings: the members that a filling leaves, and the elements that are added for them. Assumes nothing.
+use mathlib.Core.Path.{_≡_, refl, sym, ap, ap₂, _∙_, subst}
+use mathlib.Core.Logic.{_⊎_, inl, inr, ⊎-elim}
+use mathlib.Core.Bool.{Bool, true, false, not, _&&_, _||_}
+use mathlib.Core.List.{List, [], _∷_, _++_}
+use Prim.Native.Nat.{ℕ, zero, suc, _+_, _-_, _≤_, _<_, suc-le-suc}
+use native.Mathlib.Numerals.{add-one}
+use native.Mathlib.Omega.{arith}
+use lib.Dec.{eqb}
+use lib.ListN.{length, getD, set, take, drop, replicate, length-append, length-take, length-set, length-replicate, getD-replicate, take-append-drop, List·getD-append}
+use lib.Seq.{slice, take-take, take-length, getD-take, getD-append-add, getD-set-same, getD-set-other, ext-getD}
+use borrow.Author.Tests.{eq-eqb, ne-eqb}
+use Rattle.assign.specs.Order.{earlier, First}
+use Rattle.assign.specs.Rows.{bit, may, between, oneIf, cnt, count, Plus}
+use Rattle.assign.specs.Assignment.{takes, Assigns, Answer}
+use Rattle.assign.proofs.Lemmas.{same?, below?, holds?, clash, not-so, one-of, or-left, or-right, between-in, between-from, between-to, hit, miss}
+use Rattle.assign.proofs.Laws.{earlier-append-left}
+use Rattle.assign.proofs.Counting.{cnt-append, cnt-at, count-places, count-less, places-into}
+use Rattle.assign.proofs.Groups.{takes-inv}
+use Rattle.assign.proofs.Masks.{bit-none}
+use Rattle.assign.proofs.Pieces.{takes-member}
+use Rattle.cuts.specs.declared.Block.{Block}
+use Rattle.cuts.specs.Cut.{Fills, Best, Filling, Passing}
+use Rattle.cuts.specs.Table.{Spliced}
+use Rattle.cuts.specs.Reach.{Fresh, Good}
+use Rattle.cuts.specs.Pad.{Padded}
+use Rattle.cuts.proofs.Laws.{passing-true, passing-false}
+use Rattle.cuts.proofs.Seen.{good-start, good-member, cnt-more}
+
+-- ---- the members that a list leaves
+-- m before the list, where the test holds
+pub when : Bool → ℕ → List ℕ → List ℕ
+when true m ms = m ∷ ms
+when false m ms = ms
+
+-- the members below k that do not stand in the list
+pub left : List ℕ → ℕ → List ℕ
+left v zero = []
+left v (suc k) = when (eqb (cnt k v) 0) k (left v k)
+
+left-zero : (v : List ℕ) (k : ℕ) → cnt k v ≡ 0 → left v (suc k) ≡ k ∷ left v k
+unfolding left when
+left-zero v k h = ap (λ t. when t k (left v k)) (eq-eqb (cnt k v) 0 h)
+
+left-more : (v : List ℕ) (k : ℕ) → (cnt k v ≡ 0 → ⊥) → left v (suc k) ≡ left v k
+unfolding left when
+left-more v k h = ap (λ t. when t k (left v k)) (ne-eqb (cnt k v) 0 h)
+
+cnt-cons : (m x : ℕ) (xs : List ℕ) → cnt m (x ∷ xs) ≡ oneIf (eqb x m) + cnt m xs
+unfolding cnt
+cnt-cons m x xs = refl
+
+cnt-empty : (m : ℕ) → cnt m [] ≡ 0
+unfolding cnt
+cnt-empty m = refl
+
+-- each stands there once
+left-above : (v : List ℕ) (k m : ℕ) → k ≤ m → cnt m (left v k) ≡ 0
+unfolding left
+left-above v zero m l = cnt-empty m
+left-above v (suc k) m l = ⊎-elim
+    (λ (q : cnt k v ≡ 0). let a = cnt-cons m k (left v k) in let b = miss k m (λ p. omega arith) in let d = left-above v k m (omega arith) in ap (λ (x : List ℕ). cnt m x) (left-zero v k q) ∙ omega arith)
+    (λ (q : cnt k v ≡ 0 → ⊥). ap (λ (x : List ℕ). cnt m x) (left-more v k q) ∙ left-above v k m (omega arith))
+    (same? (cnt k v) 0)
+
+left-one : (v : List ℕ) (k m : ℕ) → m < k → cnt m v ≡ 0 → cnt m (left v k) ≡ 1
+left-one v zero m l z = absurd (omega arith)
+left-one v (suc k) m l z = ⊎-elim
+    (λ (p : m ≡ k).
+    let q : cnt k v ≡ 0 = subst (λ (j : ℕ). cnt j v ≡ 0) p z in
+    let a = cnt-cons m k (left v k) in
+    let b = hit k m (sym p) in
+    let d = left-above v k m (omega arith) in
+    ap (λ (x : List ℕ). cnt m x) (left-zero v k q) ∙ omega arith)
+    (λ (p : m ≡ k → ⊥).
+    let ih = left-one v k m (omega arith) z in
+    ⊎-elim
+    (λ (q : cnt k v ≡ 0). let a = cnt-cons m k (left v k) in let b = miss k m (λ r. p (sym r)) in ap (λ (x : List ℕ). cnt m x) (left-zero v k q) ∙ omega arith)
+    (λ (q : cnt k v ≡ 0 → ⊥). ap (λ (x : List ℕ). cnt m x) (left-more v k q) ∙ ih)
+    (same? (cnt k v) 0))
+    (same? m k)
+
+left-none : (v : List ℕ) (k m : ℕ) → (cnt m v ≡ 0 → ⊥) → cnt m (left v k) ≡ 0
+unfolding left
+left-none v zero m n = cnt-empty m
+left-none v (suc k) m n = ⊎-elim
+    (λ (q : cnt k v ≡ 0).
+    let a = cnt-cons m k (left v k) in
+    let b = miss k m (λ p. n (subst (λ (j : ℕ). cnt j v ≡ 0) p q)) in
+    let d = left-none v k m n in
+    ap (λ (x : List ℕ). cnt m x) (left-zero v k q) ∙ omega arith)
+    (λ (q : cnt k v ≡ 0 → ⊥). ap (λ (x : List ℕ). cnt m x) (left-more v k q) ∙ left-none v k m n)
+    (same? (cnt k v) 0)
+
+-- all are below k
+left-below : (v : List ℕ) (k i : ℕ) → i < length (left v k) → getD (left v k) i 0 < k
+unfolding left when
+left-below v zero i l = absurd (omega arith)
+left-below v (suc k) i l = go (eqb (cnt k v) 0) (λ j h. left-below v k j h) i l
+  where
+    go : (t : Bool) → ((j : ℕ) → j < length (left v k) → getD (left v k) j 0 < k) → (i : ℕ) → i < length (when t k (left v k)) → getD (when t k (left v k)) i 0 < suc k
+    go true ih zero l = omega arith
+    go true ih (suc i) l = let h = ih i (omega arith) in omega arith
+    go false ih i l = let h = ih i l in omega arith
+
+-- ---- how many are left
+left-all : (k : ℕ) → length (left [] k) ≡ k
+unfolding left when
+left-all zero = refl
+left-all (suc k) = ap (λ (x : List ℕ). length x) (left-zero [] k (cnt-empty k)) ∙ ap suc (left-all k)
+
+-- one element more, whose member is not below k: nothing changes
+left-same : (x : ℕ) (xs : List ℕ) (k : ℕ) → k ≤ x → left (x ∷ xs) k ≡ left xs k
+unfolding left
+left-same x xs zero l = refl
+left-same x xs (suc k) l =
+    let a = cnt-cons k x xs in
+    let b = miss x k (λ p. omega arith) in
+    let q : cnt k (x ∷ xs) ≡ cnt k xs = omega arith in
+    ap₂ (λ (j : ℕ) (y : List ℕ). when (eqb j 0) k y) q (left-same x xs k (omega arith))
+
+-- one element more takes one member
+left-taken : (x : ℕ) (xs : List ℕ) (k : ℕ) → x < k → cnt x xs ≡ 0 → length (left xs k) ≡ suc (length (left (x ∷ xs) k))
+left-taken x xs zero l z = absurd (omega arith)
+left-taken x xs (suc k) l z =
+    let a = cnt-cons k x xs in
+    ⊎-elim
+    (λ (p : x ≡ k).
+    let b = hit x k p in
+    let q : cnt k xs ≡ 0 = subst (λ (j : ℕ). cnt j xs ≡ 0) p z in
+    let s = ap (λ (y : List ℕ). length y) (left-zero xs k q) in
+    let t = ap (λ (y : List ℕ). length y) (left-more (x ∷ xs) k (λ e. omega arith)) in
+    let u = ap (λ (y : List ℕ). length y) (left-same x xs k (omega arith)) in
+    omega arith)
+    (λ (p : x ≡ k → ⊥).
+    let b = miss x k p in
+    let ih = left-taken x xs k (omega arith) z in
+    ⊎-elim
+    (λ (q : cnt k xs ≡ 0).
+    let s = ap (λ (y : List ℕ). length y) (left-zero xs k q) in
+    let t = ap (λ (y : List ℕ). length y) (left-zero (x ∷ xs) k (omega arith)) in
+    omega arith)
+    (λ (q : cnt k xs ≡ 0 → ⊥).
+    let s = ap (λ (y : List ℕ). length y) (left-more xs k q) in
+    let t = ap (λ (y : List ℕ). length y) (left-more (x ∷ xs) k (λ e. omega arith)) in
+    omega arith)
+    (same? (cnt k xs) 0))
+    (same? x k)
+
+left-size : (v : List ℕ) (k : ℕ) → ((e : ℕ) → e < length v → getD v e 0 < k) → ((m : ℕ) → m < k → cnt m v ≤ 1) → length v + length (left v k) ≡ k
+left-size [] k low once = let a = left-all k in omega arith
+left-size (x ∷ xs) k low once =
+    let l : x < k = low 0 (omega arith) in
+    let a = cnt-cons x x xs in
+    let b = hit x x refl in
+    let o = once x l in
+    let t = left-taken x xs k l (omega arith) in
+    let ih = left-size xs k (λ e h. low (suc e) (suc-le-suc h)) (λ m h. let d = cnt-cons m x xs in let y = once m h in omega arith) in
+    omega arith
+
+-- ---- k members, each once, on k places: every place has one
+all : ℕ → Bool
+all i = true
+
+count-all : (n : ℕ) → count all n ≡ n
+unfolding count all
+count-all zero = refl
+count-all (suc n) = let a = count-all n in omega arith
+
+other : ℕ → ℕ → Bool
+other e i = not (eqb i e)
+
+other-same : (e : ℕ) → other e e ≡ false
+unfolding other
+other-same e = ap not (eq-eqb e e refl)
+
+other-than : (e i : ℕ) → (i ≡ e → ⊥) → other e i ≡ true
+unfolding other
+other-than e i n = ap not (ne-eqb i e n)
+
+count-zero : (P : ℕ → Bool) → count P 0 ≡ 0
+unfolding count
+count-zero P = refl
+
+all-in : (v : ℕ) → all v ≡ true
+unfolding all
+all-in v = refl
+
+full-places : (a : List ℕ) (k : ℕ) → length a ≡ k → ((m : ℕ) → m < k → cnt m a ≡ 1) → (e : ℕ) → e < k → getD a e 0 < k
+full-places a k size once e l = ⊎-elim
+    (λ (h : getD a e 0 < k). h)
+    (λ (h : k ≤ getD a e 0).
+    let some = count-places all k a (λ v z _. let o = once v z in omega arith) in
+    let into = places-into all (other e) k a 0 (λ i z low _. other-than e (0 + i) (λ q.
+    let p : i ≡ e = omega arith in
+    let r : getD a i 0 ≡ getD a e 0 = ap (λ (j : ℕ). getD a j 0) p in
+    omega arith)) in
+    let z = count-zero (other e) in
+    let same = ap (λ (j : ℕ). count (other e) j) (let q : 0 + length a ≡ k = omega arith in q) in
+    let less = count-less {P = other e} {S = all} (λ v _. all-in v) e (other-same e) (all-in e) k l in
+    absurd (omega arith))
+    (below? (getD a e 0) k)
+
+-- ---- a filling and the members that it leaves
+module _ {rows padded : List ℕ} {k n : ℕ} (p : Padded rows n k padded) (few : k ≤ 32) where
+  pub fills-assigns : {v : List ℕ} → Fills rows k n v → Assigns padded 0 k 0 k (v ++ left v k)
+  fills-assigns {v} f =
+      let size = f .size in
+      let sum = left-size v k (λ e l. f .member e (omega arith)) (f .once) in
+      let long = length-append v (left v k) in
+      let right : (x i : ℕ) → x < k → (may rows x i || between n k i) ≡ true → takes padded 0 k (0 + i) x ≡ true = λ x i l h.
+      takes-member padded 0 k (0 + i) x (between-in 0 (0 + k) x (omega arith) (omega arith))
+      (subst (λ (j : ℕ). may padded x j ≡ true) (let q : i ≡ 0 + i = omega arith in q) (p .each x i l ∙ h)) in
+      record {
+        size = omega arith;
+        right = λ i l. ⊎-elim
+            (λ (h : i < n).
+            let q : getD (v ++ left v k) i 0 ≡ getD v i 0 = List·getD-append v (left v k) 0 i (omega arith) in
+            subst (λ (x : ℕ). takes padded 0 k (0 + i) x ≡ true) (sym q)
+            (right (getD v i 0) i (f .member i h) (or-left (may rows (getD v i 0) i) (between n k i) (f .right i h))))
+            (λ (h : n ≤ i).
+            let j = i - n in
+            let z : i ≡ length v + j = omega arith in
+            let q : getD (v ++ left v k) i 0 ≡ getD (left v k) j 0 = ap (λ (d : ℕ). getD (v ++ left v k) d 0) z ∙ getD-append-add v (left v k) j 0 in
+            subst (λ (x : ℕ). takes padded 0 k (0 + i) x ≡ true) (sym q)
+            (right (getD (left v k) j 0) i (left-below v k j (omega arith)) (or-right (may rows (getD (left v k) j 0) i) (between n k i) (between-in n k i h (omega arith)))))
+            (below? i n);
+        once = λ m _ l.
+            let a = cnt-append m v (left v k) in
+            let o = f .once m (omega arith) in
+            ⊎-elim
+            (λ (z : cnt m v ≡ 0). let b = left-one v k m (omega arith) z in omega arith)
+            (λ (z : cnt m v ≡ 0 → ⊥). let b = left-none v k m z in omega arith)
+            (same? (cnt m v) 0);
+      }
+
+  pub assigns-fills : {a : List ℕ} → n ≤ k → Assigns padded 0 k 0 k a → Fills rows k n (take n a)
+  assigns-fills {a} l g =
+      let size = g .size in
+      let low : (e : ℕ) → e < k → getD a e 0 < k = full-places a k (omega arith) (λ m h. g .once m (omega arith) (omega arith)) in
+      let at : (e : ℕ) → e < n → getD (take n a) e 0 ≡ getD a e 0 = λ e h. getD-take n a e 0 h in
+      let long = length-take n a in
+      record {
+        size = omega arith;
+        member = λ e h. let q = at e h in let y = low e (omega arith) in omega arith;
+        right = λ e h.
+            let x = getD a e 0 in
+            let y = low e (omega arith) in
+            let t : takes padded 0 k e x ≡ true = subst (λ (j : ℕ). takes padded 0 k j x ≡ true) (let q : 0 + e ≡ e = omega arith in q) (g .right e (omega arith)) in
+            let m : may padded x e ≡ true = ⊎-elim (λ (z : x ≡ 255). absurd (omega arith)) (λ (z : (between 0 (0 + k) x ≡ true) × (may padded x e ≡ true)). z .1) (takes-inv padded 0 k e x t) in
+            let r : may rows x e ≡ true = ⊎-elim
+            (λ (z : may rows x e ≡ true). z)
+            (λ (z : between n k e ≡ true). let b = between-from n k e z in absurd (omega arith))
+            (one-of (may rows x e) (between n k e) (sym (p .each x e y) ∙ m)) in
+            subst (λ (j : ℕ). may rows j e ≡ true) (sym (at e h)) r;
+        once = λ m h.
+            let c = cnt-append m (take n a) (drop n a) in
+            let w = ap (λ (x : List ℕ). cnt m x) (take-append-drop n a) in
+            let o = g .once m (omega arith) (omega arith) in
+            omega arith;
+      }
+
+  -- the first bytes of the first assignment with the pad
+  pub filling-first : (w : List ℕ) → n ≤ k → First (Assigns padded 0 k 0 k) (take k w) → First (Fills rows k n) (take n w)
+  filling-first w l f =
+      let q : take n (take k w) ≡ take n w = take-take n k w l in
+      let whole : take k w ≡ take n w ++ drop n (take k w) = sym (take-append-drop n (take k w)) ∙ ap (λ (x : List ℕ). x ++ drop n (take k w)) q in
+      let holds : Fills rows k n (take n w) = subst (λ (x : List ℕ). Fills rows k n x) q (assigns-fills l (f .holds)) in
+      record {
+        holds = holds;
+        least = λ v g. not-so (earlier v (take n w)) (λ e. clash
+            (ap (λ (x : List ℕ). earlier (v ++ left v k) x) whole ∙ earlier-append-left v (take n w) (left v k) (drop n (take k w)) (g .size ∙ sym (holds .size)) e)
+            (f .least (v ++ left v k) (fills-assigns g)));
+      }
+
+-- ---- what `first_filling` gives
+-- more elements than members
+pub filling-crowded : {rows : List ℕ} {k n : ℕ} → n ≤ 32 → k < n → Filling rows k n false (replicate 32 255)
+filling-crowded {rows} {k} {n} h l = record {
+  best = λ t. absurd (clash t refl);
+  none = λ _ v f.
+      let size = f .size in
+      let sum = left-size v k (λ e z. f .member e (omega arith)) (f .once) in
+      omega arith;
+  size = length-replicate {A = ℕ} 32 255;
+  outside = λ i _ z. getD-replicate {A = ℕ} 32 i 255 0 z;
+  blank = λ _. refl;
+}
+
+splice-take : {a b r : List ℕ} {n : ℕ} → n ≤ 32 → length a ≡ 32 → Spliced a b 0 n r → take n r ≡ take n a
+splice-take {a} {b} {r} {n} h la s =
+    let lr = s .size in
+    let x = length-take n r in
+    let y = length-take n a in
+    ext-getD 0 (take n r) (take n a) (omega arith) (λ i l. getD-take n r i 0 (omega arith) ∙ s .inside i (omega arith) (omega arith) ∙ sym (getD-take n a i 0 (omega arith)))
+
+pub filling-answer : {rows padded : List ℕ} {k n : ℕ} {found : Bool} {w r : List ℕ} → k ≤ 32 → n ≤ k → Padded rows n k padded → Answer padded 0 k 0 k found w
+    → Spliced w (replicate 32 255) 0 n r → Filling rows k n found r
+filling-answer {rows} {padded} {k} {n} {found} {w} {r} few l p a s =
+    let long = s .size in
+    let spare : (i : ℕ) → i < 32 → _≡_ {A = ℕ} (getD (replicate 32 255) i 0) 255 = λ i h. getD-replicate {A = ℕ} 32 i 255 0 h in
+    record {
+      best = λ t. subst (λ (x : List ℕ). First (Fills rows k n) x) (sym (splice-take (omega arith) (a .size) s)) (filling-first p few w l (a .best t));
+      none = λ f v g. a .none f (v ++ left v k) (fills-assigns p few g);
+      size = s .size;
+      outside = λ i h z. s .after i h ∙ spare i z;
+      blank = λ f. ext-getD 0 r (replicate 32 255) (long ∙ sym (length-replicate {A = ℕ} 32 255)) (λ i z. ⊎-elim
+          (λ (h : i < n). s .inside i (omega arith) h ∙ ap (λ (x : List ℕ). getD x i 0) (a .blank f))
+          (λ (h : n ≤ i). s .after i h)
+          (below? i n));
+    }
+
+-- ---- rows
+pub span-more : (n e old new : ℕ) → n ≤ e → ((i : ℕ) → bit old i ≡ between n e i) → Plus (bit old) e (bit new) → (i : ℕ) → bit new i ≡ between n (e + 1) i
+span-more n e old new l h p i = ⊎-elim
+    (λ (q : i ≡ e). subst (λ (j : ℕ). bit new j ≡ between n (e + 1) j) (sym q) (p .self ∙ sym (between-in n (e + 1) e l (omega arith))))
+    (λ (q : i ≡ e → ⊥). p .other i q ∙ h i ∙ between-past q)
+    (same? i e)
+  where
+    between-past : (i ≡ e → ⊥) → between n e i ≡ between n (e + 1) i
+    between-past q = ⊎-elim
+        (λ (t : between n e i ≡ true). let a = between-from n e i t in let b = between-to n e i t in t ∙ sym (between-in n (e + 1) i a (omega arith)))
+        (λ (t : between n e i ≡ false). t ∙ sym (not-so (between n (e + 1) i) (λ u.
+        let a = between-from n (e + 1) i u in let b = between-to n (e + 1) i u in clash (between-in n e i a (omega arith)) t)))
+        (holds? (between n e i))
+
+pub span-start : (n i : ℕ) → bit 0 i ≡ between n n i
+span-start n i = bit-none i ∙ sym (not-so (between n n i) (λ u. let a = between-from n n i u in let b = between-to n n i u in omega arith))
+
+-- the rows before m
+pub record PaddedTo (rows : List ℕ) (n k m : ℕ) (r : List ℕ) : Type 0 where
+  pub size : length r ≡ 32
+  pub each : (j e : ℕ) → j < m → may r j e ≡ (may rows j e || between n k e)
+
+pub padded-start : (rows : List ℕ) (n k : ℕ) → PaddedTo rows n k 0 (replicate 32 0)
+padded-start rows n k = record { size = length-replicate {A = ℕ} 32 0; each = λ j e l. absurd (omega arith) }
+
+pub padded-step : {rows : List ℕ} {n k m : ℕ} {r : List ℕ} (more row : ℕ) → m < 32 → PaddedTo rows n k m r → ((e : ℕ) → bit more e ≡ between n k e)
+    → ((e : ℕ) → bit row e ≡ (bit (getD rows m 0) e || bit more e)) → PaddedTo rows n k (m + 1) (set r m row)
+unfolding may
+padded-step {rows} {n} {k} {m} {r} more row h g b u =
+    let long = g .size in
+    record {
+      size = length-set r m row ∙ long;
+      each = λ j e l. ⊎-elim
+          (λ (q : j ≡ m).
+          subst (λ (i : ℕ). bit (getD (set r m row) i 0) e ≡ (bit (getD rows i 0) e || between n k e)) (sym q)
+          (ap (λ (x : ℕ). bit x e) (getD-set-same r m row 0 (omega arith)) ∙ u e ∙ ap (λ t. bit (getD rows m 0) e || t) (b e)))
+          (λ (q : j ≡ m → ⊥). ap (λ (x : ℕ). bit x e) (getD-set-other r m j row 0 q) ∙ g .each j e (omega arith))
+          (same? j m);
+    }
+
+-- ---- the offered list, byte by byte
+pub record Full (rows : List ℕ) (b : Block) (e : ℕ) (w : List ℕ) (members : ℕ) : Type 0 where
+  pub good : Good rows b 0 e w members
+  pub low : (i : ℕ) → i < e → getD w i 0 < b .k
+
+pub full-start : (rows : List ℕ) (b : Block) (w : List ℕ) → Full rows b 0 w 0
+full-start rows b w = record { good = good-start rows b 0 w; low = λ i l. absurd (omega arith) }
+
+module _ {rows : List ℕ} {b : Block} {e : ℕ} {w : List ℕ} {members : ℕ} (zeroth : b .first ≡ 0) (l : e < length w) (g : Full rows b e w members) where
+  pub full-step : {more : ℕ} → Fresh rows b members e (getD w e 0) → Plus (bit members) (getD w e 0) (bit more) → Full rows b (e + 1) w more
+  full-step {more} f p = record {
+    good = good-member (omega arith) l (g .good) f p;
+    low = λ i h. ⊎-elim
+        (λ (q : i ≡ e).
+        let t = between-to (b .first) (b .first + b .k) (getD w e 0) (f .inside) in
+        let r : getD w i 0 ≡ getD w e 0 = ap (λ (j : ℕ). getD w j 0) q in
+        omega arith)
+        (λ (q : i ≡ e → ⊥). g .low i (omega arith))
+        (same? i e);
+  }
+
+  pub full-stop : {r : Bool} → b .k ≤ 32 → Passing (Fresh rows b members e (getD w e 0)) r → r ≡ false → Passing (Fills rows (b .k) (length w) w) false
+  full-stop {r} few p q = passing-false (λ f.
+      let x = getD w e 0 in
+      let y = f .member e l in
+      let o = f .once x y in
+      ⊎-elim
+      (λ (t : bit members x ≡ true).
+      let c = g .good .counted x (omega arith) in
+      let d : oneIf (bit members x) ≡ 1 = ap oneIf t in
+      let m = cnt-more x 0 e w (omega arith) l in
+      let h = hit x x refl in
+      let s = cnt-append x (take (e + 1) w) (drop (e + 1) w) in
+      let u = ap (λ (v : List ℕ). cnt x v) (take-append-drop (e + 1) w) in
+      omega arith)
+      (λ (t : bit members x ≡ false).
+      p .failed q (record { inside = between-in (b .first) (b .first + b .k) x (omega arith) (omega arith); right = f .right e l; new = t }))
+      (holds? (bit members x)))
+
+pub full-end : {rows : List ℕ} {b : Block} {w : List ℕ} {members : ℕ} → b .first ≡ 0 → b .k ≤ 32 → Full rows b (length w) w members → Passing (Fills rows (b .k) (length w) w) true
+full-end {rows} {b} {w} {members} z few g = passing-true (record {
+  size = refl;
+  member = g .low;
+  right = λ e l.
+      let x = getD w e 0 in
+      let y = g .low e l in
+      let t : takes rows (b .first) (b .k) e x ≡ true =
+      subst (λ (j : ℕ). takes rows (b .first) (b .k) j (getD w j 0) ≡ true) (let q : 0 + e ≡ e = omega arith in q) (g .good .right e (omega arith)) in
+      ⊎-elim (λ (q : x ≡ 255). absurd (omega arith)) (λ (q : (between (b .first) (b .first + b .k) x ≡ true) × (may rows x e ≡ true)). q .1) (takes-inv rows (b .first) (b .k) e x t);
+  once = λ m l.
+      let c = g .good .counted m (omega arith) in
+      let q = ap (λ (v : List ℕ). cnt m v) (take-length w) in
+      let d : oneIf (bit members m) ≤ 1 = ⊎-elim
+      (λ (t : bit members m ≡ true). let e : oneIf (bit members m) ≡ 1 = ap oneIf t in omega arith)
+      (λ (t : bit members m ≡ false). let e : oneIf (bit members m) ≡ 0 = ap oneIf t in omega arith)
+      (holds? (bit members m)) in
+      omega arith;
+})

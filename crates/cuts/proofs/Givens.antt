@@ -1,0 +1,141 @@
+-- What is given at a place: joined, and the lesser of two. Assumes nothing.
+use mathlib.Core.Path.{_≡_, refl, sym, ap, _∙_, subst}
+use mathlib.Core.Logic.{_⊎_, inl, inr, ⊎-elim}
+use mathlib.Core.Bool.{Bool, true, false}
+use mathlib.Core.List.{List, [], _∷_, _++_}
+use Prim.Native.Nat.{ℕ, zero, suc, _+_, _-_, _≤_, _<_}
+use native.Mathlib.Omega.{arith}
+use lib.ListN.{length, getD, replicate, length-replicate, getD-replicate}
+use lib.Seq.{slice, length-slice, ext-getD}
+use Rattle.assign.specs.Order.{earlier, choose, First, Joins}
+use Rattle.assign.specs.Rows.{between, may}
+use Rattle.assign.specs.Assignment.{takes, Assigns, Answer}
+use Rattle.assign.proofs.Lemmas.{same?, below?, holds?, clash, not-so, between-in, between-from, between-to}
+use Rattle.assign.proofs.Laws.{earlier-irreflexive, first-same, first-joins, none-joins-left, none-joins-right, first-union, first-union-left, first-union-right}
+use Rattle.assign.proofs.Pieces.{slice-at, takes-spare}
+use Rattle.assign.proofs.Groups.{takes-inv}
+use Rattle.cuts.specs.declared.Block.{Block}
+use Rattle.cuts.specs.declared.Suffix.{Suffix}
+use Rattle.cuts.specs.Cut.{Takes}
+use Rattle.cuts.specs.Table.{Given, Spliced, Kept, without, alone, later, sooner}
+use Rattle.cuts.proofs.Lists.{splice-joins}
+
+-- ---- none, and another name for the same lists
+pub given-none : {P : List ℕ → Type 0} {from to : ℕ} {s : Suffix} → s .there ≡ false → s .w ≡ replicate 32 255 → ((v : List ℕ) → P v → ⊥) → Given P from to s
+given-none {P} {from} {to} {s} f q never = record {
+  best = λ t. absurd (clash t f);
+  none = λ _. never;
+  size = ap (λ (x : List ℕ). length x) q ∙ length-replicate {A = ℕ} 32 255;
+  outside = λ i l _. ap (λ (x : List ℕ). getD x i 0) q ∙ getD-replicate {A = ℕ} 32 i 255 0 l;
+  blank = λ _. q;
+}
+
+pub given-same : {P Q : List ℕ → Type 0} {from to : ℕ} {s : Suffix} → ((v : List ℕ) → P v → Q v) → ((v : List ℕ) → Q v → P v) → Given P from to s → Given Q from to s
+given-same there back g = record {
+  best = λ t. first-same there back (g .best t);
+  none = λ f v h. g .none f v (back v h);
+  size = g .size;
+  outside = g .outside;
+  blank = g .blank;
+}
+
+-- ---- the lesser of two
+pub kept-union : {P Q : List ℕ → Type 0} {from to : ℕ} {a b r : Suffix} → Given P from to a → Given Q from to b → Kept from to a b r → Given (λ v. P v ⊎ Q v) from to r
+unfolding choose
+kept-union p q (without f) = record {
+  best = λ t. first-union-left (p .best t) (q .none f);
+  none = λ t v. ⊎-elim (p .none t v) (q .none f v);
+  size = p .size;
+  outside = p .outside;
+  blank = p .blank;
+}
+kept-union p q (alone f) = record {
+  best = λ t. first-union-right (p .none f) (q .best t);
+  none = λ t v. ⊎-elim (p .none f v) (q .none t v);
+  size = q .size;
+  outside = q .outside;
+  blank = q .blank;
+}
+kept-union {P} {Q} {from} {to} {a} {b} p q (later ta tb e) = record {
+  best = λ t. subst (λ (x : Bool). First (λ v. P v ⊎ Q v) (choose x (slice from to (b .w)) (slice from to (a .w)))) e (first-union (p .best ta) (q .best tb));
+  none = λ f. absurd (clash ta f);
+  size = p .size;
+  outside = p .outside;
+  blank = p .blank;
+}
+kept-union {P} {Q} {from} {to} {a} {b} p q (sooner ta tb e) = record {
+  best = λ t. subst (λ (x : Bool). First (λ v. P v ⊎ Q v) (choose x (slice from to (b .w)) (slice from to (a .w)))) e (first-union (p .best ta) (q .best tb));
+  none = λ f. absurd (clash tb f);
+  size = q .size;
+  outside = q .outside;
+  blank = q .blank;
+}
+
+-- ---- a block with no members
+-- every assignment is 255 throughout
+spare-bytes : {rows : List ℕ} {first k from to : ℕ} {v : List ℕ} → k ≡ 0 → Assigns rows first k from to v → (i : ℕ) → i < length v → getD v i 0 ≡ 255
+spare-bytes {rows} {first} {k} {from} {to} {v} z a i l = ⊎-elim
+    (λ (q : getD v i 0 ≡ 255). q)
+    (λ (q : (between first (first + k) (getD v i 0) ≡ true) × (may rows (getD v i 0) (from + i) ≡ true)).
+    let x = between-from first (first + k) (getD v i 0) (q .0) in
+    let y = between-to first (first + k) (getD v i 0) (q .0) in
+    absurd (omega arith))
+    (takes-inv rows first k (from + i) (getD v i 0) (a .right i l))
+
+spare-first : {rows : List ℕ} {first k from to : ℕ} (w : List ℕ) → k ≡ 0 → from ≤ to → to ≤ 32 → length w ≡ 32 → ((i : ℕ) → from ≤ i → i < to → getD w i 0 ≡ 255)
+    → First (Assigns rows first k from to) (slice from to w)
+spare-first {rows} {first} {k} {from} {to} w z f t long all =
+    let n = length-slice from to w (omega arith) in
+    let at : (i : ℕ) → i < to - from → getD (slice from to w) i 0 ≡ 255 = λ i l. slice-at from to w i l ∙ all (from + i) (omega arith) (omega arith) in
+    record {
+      holds = record { size = n; right = λ i l. takes-spare rows first k (from + i) (getD (slice from to w) i 0) (at i (omega arith)); once = λ m l h. absurd (omega arith) };
+      least = λ v a.
+          let size = a .size in
+          let same : v ≡ slice from to w = ext-getD 0 v (slice from to w) (size ∙ sym n) (λ i l. spare-bytes z a i l ∙ sym (at i (omega arith))) in
+          ap (λ (x : List ℕ). earlier x (slice from to w)) same ∙ earlier-irreflexive (slice from to w);
+    }
+
+-- ---- a piece before a list
+module _ {rows : List ℕ} {b : Block} {Q : List ℕ → Type 0} {from to n : ℕ} {rest : Suffix}
+    (f : from ≤ to) (t : to ≤ n) (end : n ≤ 32) (enough : b .k + b .min ≤ to - from) (few : to - from ≤ b .k + b .max) (g : Given Q to n rest) where
+  pub joined-absent : rest .there ≡ false → Given (Joins (Takes rows b from to) Q) from n rest
+  joined-absent h = given-none h (g .blank h) (none-joins-right (g .none h))
+
+  pub joined-none : {found : Bool} {w : List ℕ} → Answer rows (b .first) (b .k) from to found w → found ≡ false
+      → Given (Joins (Takes rows b from to) Q) from n (record { there = false; w = w })
+  joined-none a h = given-none refl (a .blank h) (none-joins-left (λ v x. a .none h v (x .assigned)))
+
+  -- the first assignment, as what the block takes
+  first-takes : {a : List ℕ} → First (Assigns rows (b .first) (b .k) from to) a → First (Takes rows b from to) a
+  first-takes = first-same (λ v x. record { assigned = x; enough = enough; few = few }) (λ v x. x .assigned)
+
+  -- the first list that the block takes, before the rest
+  joined-first : {w v : List ℕ} → rest .there ≡ true → length w ≡ 32 → First (Takes rows b from to) (slice from to w) → Spliced w (rest .w) from to v
+      → Given (Joins (Takes rows b from to) Q) from n (record { there = true; w = v })
+  joined-first {w} {v} h long p s = record {
+    best = λ _. subst (λ (x : List ℕ). First (Joins (Takes rows b from to) Q) x) (sym (splice-joins n f t end long (g .size) s))
+        (first-joins (to - from) (λ x k. k .assigned .size) p (g .best h));
+    none = λ x. absurd (clash refl x);
+    size = s .size;
+    outside = λ i l o. ⊎-elim
+        (λ (k : i < from). s .before i k ∙ g .outside i l (not-so (between to n i) (λ z. let x = between-from to n i z in omega arith)))
+        (λ (k : from ≤ i). ⊎-elim
+        (λ (m : i < n). absurd (clash (between-in from n i k m) o))
+        (λ (m : n ≤ i). s .after i (omega arith) ∙ g .outside i l (not-so (between to n i) (λ z. let x = between-to to n i z in omega arith)))
+        (below? i n))
+        (below? i from);
+    blank = λ x. absurd (clash refl x);
+  }
+
+  pub joined-found : {found : Bool} {w v : List ℕ} → rest .there ≡ true → Answer rows (b .first) (b .k) from to found w → found ≡ true → Spliced w (rest .w) from to v
+      → Given (Joins (Takes rows b from to) Q) from n (record { there = true; w = v })
+  joined-found h a y s = joined-first h (a .size) (first-takes (a .best y)) s
+
+  -- a block with no members takes only 255, which stands before the rest already
+  pub joined-spare : b .k ≡ 0 → rest .there ≡ true → Given (Joins (Takes rows b from to) Q) from n rest
+  joined-spare z h =
+      let whole : rest ≡ record { there = true; w = rest .w } = ap (λ (x : Bool). record { there = x; w = rest .w }) h in
+      subst (λ (x : Suffix). Given (Joins (Takes rows b from to) Q) from n x) (sym whole)
+      (joined-first h (g .size) (first-takes (spare-first (rest .w) z f (omega arith) (g .size) (λ i l k.
+      g .outside i (omega arith) (not-so (between to n i) (λ y. let x = between-from to n i y in omega arith)))))
+      (record { size = g .size; inside = λ i l k. refl; before = λ i l. refl; after = λ i l. refl }))

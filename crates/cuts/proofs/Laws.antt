@@ -1,0 +1,130 @@
+-- Laws of cuts, for the crates above. Assumes nothing.
+-- cuts-length: a cut has a byte for each element. cuts-snoc, cuts-unsnoc: the last block's piece ends a cut.
+-- slice-split: a piece of a list is split at a middle place. passing-true, passing-false: a test that is known.
+use mathlib.Core.Path.{_≡_, refl, sym, ap, ap₂, _∙_, subst}
+use mathlib.Core.Bool.{Bool, true, false}
+use mathlib.Core.List.{List, [], _∷_, _++_, append-assoc, append-nil}
+use Prim.Native.Nat.{ℕ, zero, suc, _+_, _-_, _≤_, _<_}
+use native.Mathlib.Omega.{arith}
+use lib.ListN.{length, take, drop, length-append, length-take, take-append-drop}
+use lib.Seq.{slice, take-take, drop-append-le}
+use Rattle.assign.specs.Order.{Joins}
+use Rattle.assign.proofs.Lemmas.{clash}
+use Rattle.cuts.specs.declared.Block.{Block}
+use Rattle.cuts.specs.Cut.{Takes, CutAt, Cuts, Passing}
+
+-- ---- tests
+pub passing-true : {P : Type 0} → P → Passing P true
+passing-true p = record { passed = λ _. p; failed = λ f. absurd (clash refl f) }
+
+pub passing-false : {P : Type 0} → (P → ⊥) → Passing P false
+passing-false n = record { passed = λ t. absurd (clash t refl); failed = λ _. n }
+
+pub passing-same : {P Q : Type 0} {r : Bool} → (P → Q) → (Q → P) → Passing P r → Passing Q r
+passing-same there back h = record { passed = λ t. there (h .passed t); failed = λ f q. h .failed f (back q) }
+
+-- ---- lists
+pub slice-split : (from e to : ℕ) (w : List ℕ) → from ≤ e → e ≤ to → to ≤ length w → slice from to w ≡ slice from e w ++ slice e to w
+slice-split from e to w f l k =
+    let whole : take to w ≡ take e w ++ slice e to w = sym (take-append-drop e (take to w)) ∙ ap (λ (x : List ℕ). x ++ slice e to w) (take-take e to w l) in
+    let n = length-take e w in
+    ap (λ (x : List ℕ). drop from x) whole ∙ drop-append-le from (take e w) (slice e to w) (omega arith)
+
+-- ---- cuts
+-- what a piece and the rest give together
+record Sized (from to : ℕ) (w : List ℕ) : Type 0 where
+  order : from ≤ to
+  size : length w ≡ to - from
+
+sized : (rows : List ℕ) (bs : List Block) (from to : ℕ) (w : List ℕ) → Cuts rows bs from to w → Sized from to w
+unfolding Cuts
+sized rows [] from to w c = let q = c .0 in record { order = omega arith; size = ap (λ (x : List ℕ). length x) (c .1) ∙ omega arith }
+sized rows (b ∷ bs) from to w c =
+    let a = c .after in
+    let j = c .parts in
+    let l = j .onLeft .assigned .size in
+    let r = sized rows bs (c .mid) to (j .right) (j .onRight) in
+    let o = r .order in
+    let s = r .size in
+    let n = length-append (j .left) (j .right) in
+    record { order = omega arith; size = ap (λ (x : List ℕ). length x) (j .whole) ∙ omega arith }
+
+pub cuts-order : (rows : List ℕ) (bs : List Block) (from to : ℕ) (w : List ℕ) → Cuts rows bs from to w → from ≤ to
+cuts-order rows bs from to w c = sized rows bs from to w c .order
+
+pub cuts-length : (rows : List ℕ) (bs : List Block) (from to : ℕ) (w : List ℕ) → Cuts rows bs from to w → length w ≡ to - from
+cuts-length rows bs from to w c = sized rows bs from to w c .size
+
+pub cuts-snoc : (rows : List ℕ) (bs : List Block) (b : Block) (from mid to : ℕ) (u v : List ℕ) → Cuts rows bs from mid u → mid ≤ to → Takes rows b mid to v
+    → Cuts rows (bs ++ (b ∷ [])) from to (u ++ v)
+unfolding Cuts
+cuts-snoc rows [] b from mid to u v c l t = record {
+  mid = to;
+  after = let q = c .0 in omega arith;
+  inside = omega arith;
+  parts = record {
+    left = v;
+    right = [];
+    whole = ap (λ (x : List ℕ). x ++ v) (c .1) ∙ sym (append-nil v);
+    onLeft = subst (λ (x : ℕ). Takes rows b x to v) (sym (c .0)) t;
+    onRight = (refl, refl);
+  };
+}
+cuts-snoc rows (a ∷ bs) b from mid to u v c l t =
+    let j = c .parts in
+    let o = cuts-order rows bs (c .mid) mid (j .right) (j .onRight) in
+    record {
+      mid = c .mid;
+      after = c .after;
+      inside = omega arith;
+      parts = record {
+        left = j .left;
+        right = j .right ++ v;
+        whole = ap (λ (x : List ℕ). x ++ v) (j .whole) ∙ append-assoc (j .left) (j .right) v;
+        onLeft = j .onLeft;
+        onRight = cuts-snoc rows bs b (c .mid) mid to (j .right) v (j .onRight) l t;
+      };
+    }
+
+-- a cut by bs up to a middle place, and what b takes from there on
+pub record Ended (rows : List ℕ) (bs : List Block) (b : Block) (from to : ℕ) (w : List ℕ) : Type 0 where
+  pub mid : ℕ
+  pub inside : mid ≤ to
+  pub parts : Joins (Cuts rows bs from mid) (Takes rows b mid to) w
+
+pub cuts-unsnoc : (rows : List ℕ) (bs : List Block) (b : Block) (from to : ℕ) (w : List ℕ) → Cuts rows (bs ++ (b ∷ [])) from to w → Ended rows bs b from to w
+unfolding Cuts
+cuts-unsnoc rows [] b from to w c =
+    let j = c .parts in
+    let e = j .onRight in
+    record {
+      mid = from;
+      inside = let x = c .after in let y = c .inside in omega arith;
+      parts = record {
+        left = [];
+        right = j .left;
+        whole = j .whole ∙ ap (λ (x : List ℕ). j .left ++ x) (e .1) ∙ append-nil (j .left);
+        onLeft = (refl, refl);
+        onRight = subst (λ (x : ℕ). Takes rows b from x (j .left)) (e .0) (j .onLeft);
+      };
+    }
+cuts-unsnoc rows (a ∷ bs) b from to w c =
+    let j = c .parts in
+    let r = cuts-unsnoc rows bs b (c .mid) to (j .right) (j .onRight) in
+    let k = r .parts in
+    record {
+      mid = r .mid;
+      inside = r .inside;
+      parts = record {
+        left = j .left ++ k .left;
+        right = k .right;
+        whole = j .whole ∙ ap (λ (x : List ℕ). j .left ++ x) (k .whole) ∙ sym (append-assoc (j .left) (k .left) (k .right));
+        onLeft = record {
+          mid = c .mid;
+          after = c .after;
+          inside = cuts-order rows bs (c .mid) (r .mid) (k .left) (k .onLeft);
+          parts = record { left = j .left; right = k .left; whole = refl; onLeft = j .onLeft; onRight = k .onLeft };
+        };
+        onRight = k .onRight;
+      };
+    }

@@ -1,0 +1,9 @@
+pub mod Lists
+pub mod Givens
+pub mod Tables
+pub mod Laws
+pub mod Seen
+pub mod Reaches
+pub mod Fillings
+pub mod Claims
+pub mod Unique

@@ -1,0 +1,79 @@
+-- `padded` meets its contract. The invariant: the rows before m have the pad. The measure is the number of rows left. Assumes nothing.
+use mathlib.Core.Path.{_≡_}
+use Prim.Native.Nat.{ℕ, _-_, _≤_}
+use native.Mathlib.Omega.{arith}
+use borrow.Author.Needs.{needs}
+use Rattle.assign.specs.Rows.{bit, between}
+use Rattle.cuts.proofs.Fillings.{PaddedTo, padded-start, padded-step}
+use Rattle.cuts.proofs.pad.padded.Statement.{statement}
+use Rattle.cuts.proofs.pad.padded.Tie as tie
+use Rattle.cuts.proofs.pad.padded.Reads as reads
+use Rattle.cuts.proofs.pad.padded.Lts as lts
+use Rattle.cuts.proofs.pad.span.Reads as span-reads
+use Rattle.cuts.proofs.pad.union.Reads as union-reads
+
+abbrev Inv-loop : tie.InvT-loop
+Inv-loop rows n k more r₀ m₀ r m = (m ≤ k) × ((e : ℕ) → bit more e ≡ between n k e) × PaddedTo rows n k m r
+
+abbrev μ-loop : tie.MeasureT-loop
+μ-loop rows n k more r₀ m₀ r m = k - m
+
+span-requires : tie.Need-span-requires Inv-loop μ-loop
+span-requires c κs = c .pre
+
+loop-holds : tie.Need-loop-holds Inv-loop μ-loop
+loop-holds c = (omega arith, c .span .ensures, padded-start _ _ _)
+
+cast-union : tie.Need-cast-union Inv-loop μ-loop
+cast-union c = search needs
+
+mul-union : tie.Need-mul-union Inv-loop μ-loop
+mul-union c = search needs
+
+element-copy-out-union : tie.Need-element-copy-out-union Inv-loop μ-loop
+element-copy-out-union c = search needs
+
+union-requires : tie.Need-union-requires Inv-loop μ-loop
+union-requires c κs = search needs
+
+cast-r : tie.Need-cast-r Inv-loop μ-loop
+cast-r c = search needs
+
+mul-r : tie.Need-mul-r Inv-loop μ-loop
+mul-r c = search needs
+
+array-write-r : tie.Need-array-write-r Inv-loop μ-loop
+array-write-r c = omega arith
+
+add-m : tie.Need-add-m Inv-loop μ-loop
+add-m c = omega arith
+
+loop-less : tie.Need-loop-less Inv-loop μ-loop
+loop-less c = omega arith
+
+loop-again : tie.Need-loop-again Inv-loop μ-loop
+loop-again c = let i = c .before .before .before .loop .inv in (omega arith, i .1, padded-step _ _ (omega arith) (i .2) (i .1) (c .union .ensures))
+
+returns : tie.Need-returns Inv-loop μ-loop
+returns c =
+    let q : c .before .loop .m ≡ c .before .before .before .args .k = omega arith in let g = rw q at (c .before .loop .inv .2) in record { size = g .size; each = λ m e l. g .each m e l }
+
+pub padded-spec : {M : Type 1} → statement M
+padded-spec =
+    tie.close
+    (tie.spec
+    Inv-loop
+    μ-loop
+    span-requires
+    loop-holds
+    cast-union
+    mul-union
+    element-copy-out-union
+    union-requires
+    cast-r
+    mul-r
+    array-write-r
+    add-m
+    loop-less
+    loop-again
+    returns)

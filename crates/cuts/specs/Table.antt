@@ -1,0 +1,56 @@
+-- The table of `first_cut`: for each place the first list by which the blocks so far take the elements from that place on.
+-- Given P from to s        <-> s is the first list of P at the places from .. to - 1 of 32 bytes, or says that P has none; all else is 255
+-- nothing, beyond         == no list, as 32 bytes; what is read beyond a table
+-- Tabled rows bs n from t  <-> from the place `from` on, the table t gives what the blocks bs take up to n
+-- Spliced a b from to r    <-> r is b with the bytes from .. to - 1 of a
+-- Kept from to a b r       <-> r is the one of a and b that is there, or comes first
+-- CutBefore rows b rest from to stop w <-> w is a cut whose first piece, by b, ends before `stop`
+-- Assumes nothing: these are definitions.
+use mathlib.Core.Path.{_≡_}
+use mathlib.Core.Bool.{Bool, true, false}
+use mathlib.Core.List.{List, []}
+use Prim.Native.Nat.{ℕ, _≤_, _<_}
+use lib.ListN.{length, getD, replicate}
+use lib.Seq.{slice}
+use Rattle.assign.specs.Order.{First, Joins, earlier}
+use Rattle.assign.specs.Rows.{between}
+use Rattle.cuts.specs.declared.Block.{Block}
+use Rattle.cuts.specs.declared.Suffix.{Suffix}
+use Rattle.cuts.specs.Cut.{Takes, Cuts}
+
+pub record Given (P : List ℕ → Type 0) (from to : ℕ) (s : Suffix) : Type 0 where
+  pub best : s .there ≡ true → First P (slice from to (s .w))
+  pub none : s .there ≡ false → (v : List ℕ) → P v → ⊥
+  pub size : length (s .w) ≡ 32
+  pub outside : (i : ℕ) → i < 32 → between from to i ≡ false → getD (s .w) i 0 ≡ 255
+  pub blank : s .there ≡ false → s .w ≡ replicate 32 255
+
+-- no list, as 32 bytes; and what is read beyond a table
+abbrev pub nothing : Suffix
+nothing = record { there = false; w = replicate 32 255 }
+
+abbrev pub beyond : Suffix
+beyond = record { there = false; w = [] }
+
+pub record Tabled (rows : List ℕ) (bs : List Block) (n from : ℕ) (t : List Suffix) : Type 0 where
+  pub size : length t ≡ 33
+  pub at : (p : ℕ) → from ≤ p → p ≤ n → Given (Cuts rows bs p n) p n (getD t p beyond)
+
+pub record Spliced (a b : List ℕ) (from to : ℕ) (r : List ℕ) : Type 0 where
+  pub size : length r ≡ 32
+  pub inside : (i : ℕ) → from ≤ i → i < to → getD r i 0 ≡ getD a i 0
+  pub before : (i : ℕ) → i < from → getD r i 0 ≡ getD b i 0
+  pub after : (i : ℕ) → to ≤ i → getD r i 0 ≡ getD b i 0
+
+pub data Kept (from to : ℕ) (a b : Suffix) : Suffix → Type 0 where
+  without : b .there ≡ false → Kept from to a b a
+  alone : a .there ≡ false → Kept from to a b b
+  later : a .there ≡ true → b .there ≡ true → earlier (slice from to (b .w)) (slice from to (a .w)) ≡ false → Kept from to a b a
+  sooner : a .there ≡ true → b .there ≡ true → earlier (slice from to (b .w)) (slice from to (a .w)) ≡ true → Kept from to a b b
+
+pub record CutBefore (rows : List ℕ) (b : Block) (rest : ℕ → List ℕ → Type 0) (from to stop : ℕ) (w : List ℕ) : Type 0 where
+  pub mid : ℕ
+  pub early : mid < stop
+  pub after : from ≤ mid
+  pub inside : mid ≤ to
+  pub parts : Joins (Takes rows b from mid) (rest mid) w

@@ -1,0 +1,88 @@
+// Lists at their places in 32 bytes, with 255 around: two joined, and the lesser of two.
+ghost use mathlib.Core.Path.{_≡_};
+ghost use mathlib.Core.List.{List};
+ghost use Prim.Native.Nat.{ℕ, _+_, _-_, _≤_};
+ghost use lib.Seq.{slice};
+ghost use Rattle.assign.specs.Order.{earlier, Joins};
+ghost use Rattle.cuts.specs.declared.Block.{Block as BlockOf};
+ghost use Rattle.cuts.specs.Cut.{Takes, Cuts};
+ghost use Rattle.cuts.specs.Table.{Given, Spliced, Kept};
+use crate::Block;
+use crate::Suffix;
+use assign::first_assignment;
+
+// Whether a comes before b in byte order, by the places from .. to - 1.
+pub fn comes_before(a: [u8; 32], b: [u8; 32], from: usize, to: usize) -> bool
+    requires { ⌜ (from ≤ to) × (to ≤ 32) ⌝ }
+    ensures { λ r. ⌜ r ≡ earlier (slice from to a) (slice from to b) ⌝ }
+{
+    let mut e = from;
+    while e < to {
+        let x = a[e];
+        let y = b[e];
+        if x != y {
+            return x < y;
+        }
+        e += 1;
+    }
+    false
+}
+
+// The bytes from .. to - 1 of a, and the other bytes of b.
+pub fn splice(a: [u8; 32], b: [u8; 32], from: usize, to: usize) -> [u8; 32]
+    requires { ⌜ (from ≤ to) × (to ≤ 32) ⌝ }
+    ensures { λ r. ⌜ Spliced a b from to r ⌝ }
+{
+    let mut r = b;
+    let mut e = from;
+    while e < to {
+        let x = a[e];
+        r[e] = x;
+        e += 1;
+    }
+    r
+}
+
+// The one that is there, or comes first.
+pub fn keep(a: Suffix, b: Suffix, from: usize, to: usize) -> Suffix
+    requires { ⌜ (from ≤ to) × (to ≤ 32) ⌝ }
+    ensures { λ r. ⌜ Kept from to a b r ⌝ }
+{
+    if !b.there {
+        return a;
+    }
+    if !a.there {
+        return b;
+    }
+    let x = a.w;
+    let y = b.w;
+    if comes_before(y, x, from, to) {
+        return b;
+    }
+    a
+}
+
+// The first assignment of the elements from .. to - 1 by the block, before the list `rest`, which begins at `to`.
+pub fn joined(rows: &[u32; 32], b: Block, rest: Suffix, from: usize, to: usize) -> Suffix
+    requires { ⌜ (b .first + b .k ≤ 32) × (from ≤ to) × (to ≤ 32) × (b .k + b .min ≤ to - from) × (to - from ≤ b .k + b .max) ⌝ }
+    ensures { λ r. ⌜ ((bs : List BlockOf) (n : ℕ) → to ≤ n → n ≤ 32 → Given (Cuts (now (rows .entry)) bs to n) to n rest → Given (Joins (Takes (now (rows .entry)) b from to) (Cuts (now (rows .entry)) bs to n)) from n r) ⌝ }
+{
+    if !rest.there {
+        return rest;
+    }
+    // a piece with no members is all 255, as the bytes before `to` are
+    if b.k == 0 {
+        return rest;
+    }
+    let piece = first_assignment(rows, b.first, b.k, from as u8, to as u8);
+    let left = piece.w;
+    if !piece.found {
+        return Suffix {
+            there: false,
+            w: left,
+        };
+    }
+    let right = rest.w;
+    let w = splice(left, right, from, to);
+    Suffix { there: true, w: w }
+}

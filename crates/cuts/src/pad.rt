@@ -1,0 +1,44 @@
+// Rows with elements that every member may take.
+ghost use mathlib.Core.Path.{_≡_};
+ghost use mathlib.Core.Bool.{_||_};
+ghost use Prim.Native.Nat.{ℕ, _≤_};
+ghost use Rattle.assign.specs.Rows.{bit, between};
+ghost use Rattle.cuts.specs.Pad.{Padded};
+use assign::mask::with;
+
+// The numbers n .. k - 1.
+fn span(n: u8, k: u8) -> u32
+    requires { ⌜ (n ≤ k) × (k ≤ 32) ⌝ }
+    ensures { λ r. ⌜ ((e : ℕ) → bit r e ≡ between n k e) ⌝ }
+{
+    let mut r: u32 = 0;
+    let mut e = n;
+    while e < k {
+        r = with(r, e);
+        e += 1;
+    }
+    r
+}
+
+// What is in a or in b.
+fn union(a: u32, b: u32) -> u32
+    ensures { λ r. ⌜ ((e : ℕ) → bit r e ≡ (bit a e || bit b e)) ⌝ }
+{
+    a | b
+}
+
+// The rows in which each member below k may take the elements n .. k - 1 too.
+pub fn padded(rows: &[u32; 32], n: u8, k: u8) -> [u32; 32]
+    requires { ⌜ (n ≤ k) × (k ≤ 32) ⌝ }
+    ensures { λ r. ⌜ Padded (now (rows .entry)) n k r ⌝ }
+{
+    let more = span(n, k);
+    let mut r = [0u32; 32];
+    let mut m: u8 = 0;
+    while m < k {
+        let row = union(rows[m as usize], more);
+        r[m as usize] = row;
+        m += 1;
+    }
+    r
+}

@@ -1,0 +1,103 @@
+// The plan of a template: its items as blocks, where its members stand, and which member matches which element of a list.
+ghost use mathlib.Core.List.{List};
+ghost use mathlib.Core.Path.{_≡_};
+ghost use Prim.Native.Nat.{_≤_, _<_};
+ghost use lib.ListN.{length, take};
+ghost use Rattle.template.specs.Element.{Elem};
+ghost use Rattle.template.specs.Leaf.{Leaf};
+ghost use Rattle.element.specs.Contract.{ElementAt};
+ghost use Rattle.plan.specs.Blocks.{Standing};
+ghost use Rattle.plan.specs.Contract.{PlanOf, RowsOf};
+ghost use Rattle.plan.specs.Places.{MembersAt, RowTo};
+use assign::mask::with;
+use cuts::Block;
+use element::match_element;
+use template::whole::scan_template;
+
+mod walk; // the walk over an accepted template
+
+// The refusal's number or 0; the least and greatest length of the list; the blocks, the first `count`; the places of the members.
+pub struct Plan {
+    pub number: u8,
+    pub low: u8,
+    pub high: u8,
+    pub subset: bool,
+    pub count: usize,
+    pub blocks: [Block; 32],
+    pub members: usize,
+    pub places: [usize; 32],
+}
+
+// Which elements of the list the element template at `at` matches.
+fn row_of(t: &[u8], at: usize, list: &[i32]) -> u32
+    requires { ⌜ ElementAt (now t) at × (length (now list) ≤ 32) ⌝ }
+    ensures { λ r. ⌜ RowTo (now (t .entry)) at (now (list .entry)) (length (now (list .entry))) r ⌝ }
+{
+    let mut row: u32 = 0;
+    let mut e: usize = 0;
+    while e < list.len() {
+        let x = list[e];
+        let w = match_element(t, at, x);
+        if w.hit {
+            row = with(row, e as u8);
+        }
+        e += 1;
+    }
+    row
+}
+
+// Bit e of row m says whether the member at `places[m]` matches element e of the list.
+pub fn rows_of(t: &[u8], places: [usize; 32], members: usize, list: &[i32]) -> [u32; 32]
+    requires { ⌜ MembersAt (now t) places members × (length (now list) ≤ 32) ⌝ }
+    ensures { λ r. ⌜ ((es : List (Elem Leaf)) → Standing (now (t .entry)) es (take members places) → RowsOf es (now (list .entry)) r) ⌝ }
+{
+    let mut rows: [u32; 32] = [0; 32];
+    let mut m: usize = 0;
+    while m < members {
+        let at = places[m];
+        rows[m] = row_of(t, at, list);
+        m += 1;
+    }
+    rows
+}
+
+const LENGTH: u8 = 0x30;
+
+const INFINITY: u8 = 255;
+
+// The plan of bytes that are refused with this number.
+fn no_plan(number: u8) -> Plan
+    requires { ⌜ 0 < number ⌝ }
+    ensures { λ r. ⌜ r .number ≡ number ⌝ }
+{
+    let none = Block {
+        first: 0,
+        k: 0,
+        min: 0,
+        max: 0,
+    };
+    Plan {
+        number,
+        low: 0,
+        high: 0,
+        subset: false,
+        count: 0,
+        blocks: [none; 32],
+        members: 0,
+        places: [0; 32],
+    }
+}
+
+// The plan of the template whose bytes are t.
+pub fn plan_of(t: &[u8]) -> Plan
+    ensures { λ r. ⌜ PlanOf (now (t .entry)) r ⌝ }
+{
+    let number = scan_template(t);
+    if number != 0 {
+        return no_plan(number);
+    }
+    if t[0] != LENGTH {
+        return walk::plan_body(t, 0, 0, INFINITY);
+    }
+    walk::plan_body(t, 3, t[1], t[2])
+}
