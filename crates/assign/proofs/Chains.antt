@@ -2,15 +2,16 @@
 -- A place is open if it is in F (spare) or in H (held). `Walk` is the loop's invariant.
 use mathlib.Core.Path.{_≡_, refl, sym, ap, _∙_, subst, subst₂}
 use mathlib.Core.Logic.{_⊎_, inl, inr, ⊎-elim}
-use mathlib.Core.Bool.{Bool, true, false, not, _&&_, _||_}
-use mathlib.Core.List.{List, [], _∷_}
-use Prim.Native.Nat.{ℕ, zero, suc, _+_, _≤_, _<_}
+use mathlib.Core.Bool.{Bool, true, false, not, _||_}
+use mathlib.Core.List.{List}
+use Prim.Native.Nat.{ℕ, _+_, _≤_, _<_}
 use native.Mathlib.Omega.{arith}
 use lib.ListN.{length, getD, set, length-set}
 use lib.Seq.{getD-set-same, getD-set-other}
 use borrow.Author.Tests.{not-true}
 use Rattle.assign.specs.Rows.{may, between, cnt, count, Plus}
-use Rattle.assign.specs.Search.{Flipped, Opened, Ready, reach, within, Owned, Served, Gave, Filled, Stuck, Settled, Blocked, Placed}
+use Rattle.assign.specs.Visit.{Flipped}
+use Rattle.assign.specs.Chain.{Opened, Ready, reach, within, Owned, Served, Gave, Filled, Stuck, Settled, Placed}
 use Rattle.assign.proofs.Lemmas.{same?, below?, holds?, clash, not-so, between-in, between-from, between-to, and-left, and-right, both, one-of, or-left, or-right, hit, miss}
 use Rattle.assign.proofs.Counting.{cnt-set, cnt-at, count-less}
 
@@ -346,7 +347,7 @@ pub opened-ready : {w : List ℕ} {from to m : ℕ} {F H P : ℕ → Bool} → m
 opened-ready member fresh o = record { member = member; fresh = fresh; free = λ e f. o .free e f .1; held = λ e f. o .held e f .1 }
 
 -- ---- one call of `settle`, with nobody tried and the places of a piece
-within-reach : (rows : List ℕ) (from to : ℕ) (F H : ℕ → Bool) (v e : ℕ) → (between from to e ≡ true → (F e || H e) ≡ true) → within rows from to v e ≡ true → reach rows F H v e ≡ true
+pub within-reach : (rows : List ℕ) (from to : ℕ) (F H : ℕ → Bool) (v e : ℕ) → (between from to e ≡ true → (F e || H e) ≡ true) → within rows from to v e ≡ true → reach rows F H v e ≡ true
 unfolding within reach
 within-reach rows from to F H v e all o = both (may rows v e) (F e || H e) (and-left (may rows v e) (between from to e) o) (all (and-right (may rows v e) (between from to e) o))
 

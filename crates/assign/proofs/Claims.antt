@@ -1,21 +1,20 @@
 -- The proofs of specs/Claims.antt. Assumes nothing.
-use mathlib.Core.Path.{_≡_, refl, sym, ap, _∙_}
-use mathlib.Core.Logic.{_⊎_, inl, inr, ⊎-elim}
+use mathlib.Core.Path.{_≡_, sym, ap, _∙_}
+use mathlib.Core.Logic.{_⊎_, ⊎-elim}
 use mathlib.Core.Bool.{Bool, true, false}
 use mathlib.Core.List.{List}
-use Prim.Native.Nat.{ℕ, _+_, _-_, _≤_, _<_}
+use Prim.Native.Nat.{ℕ, _+_, _-_, _<_}
 use native.Mathlib.Omega.{arith}
 use lib.ListN.{length, getD}
 use lib.Seq.{slice, ext-getD}
 use Rattle.assign.specs.Rows.{between}
-use Rattle.assign.specs.Order.{earlier}
-use Rattle.assign.specs.Assignment.{Assigns, Short, Answer}
+use Rattle.assign.specs.Assignment.{Answer}
 use Rattle.assign.specs.Claims.{Sound, Complete, Least, Unique, Explained, Tested}
 use Rattle.assign.proofs.Lemmas.{holds?, clash, not-so, between-from, between-to}
 use Rattle.assign.proofs.Laws.{first-unique}
 use Rattle.assign.proofs.Groups.{short-never}
 use Rattle.assign.proofs.Pieces.{slice-at}
-use Rattle.assign.proofs.Tests.{assigns-test, test-assigns}
+use Rattle.assign.proofs.Assignments.{assigns-test, test-assigns}
 
 pub sound : Sound
 sound rows first k from to found w h f = h .best f .holds

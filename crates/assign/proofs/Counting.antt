@@ -2,17 +2,17 @@
 -- cnt-append, cnt-set, cnt-replicate, cnt-at, cnt-place, cnt-none, cnt-two: how many places of a list hold a number.
 -- count-less: a set with fewer members. double-count: the places of a list that hold a member of a set are the members' counts together.
 -- places-into, places-onto: the places that hold members of a set, against a set of elements.
-use mathlib.Core.Path.{_≡_, refl, sym, ap, ap₂, _∙_, subst}
-use mathlib.Core.Logic.{_⊎_, inl, inr, ⊎-elim}
-use mathlib.Core.Bool.{Bool, true, false, not, _&&_}
+use mathlib.Core.Path.{_≡_, refl, sym, ap, _∙_, subst}
+use mathlib.Core.Logic.{_⊎_, ⊎-elim}
+use mathlib.Core.Bool.{Bool, true, false, _&&_}
 use mathlib.Core.List.{List, [], _∷_, _++_}
 use Prim.Native.Nat.{ℕ, zero, suc, _+_, _≤_, _<_, suc-le-suc}
-use native.Mathlib.Nat.{not-suc-le-zero, le-of-suc-le-suc, add-suc}
+use native.Mathlib.Nat.{not-suc-le-zero, le-of-suc-le-suc}
 use native.Mathlib.Omega.{arith}
 use lib.Dec.{eqb, ltb}
 use lib.ListN.{length, getD, set, replicate}
 use borrow.Author.Tests.{eq-eqb, ne-eqb, lt-ltb, le-ltb}
-use Rattle.assign.specs.Rows.{oneIf, cnt, count, Stands}
+use Rattle.assign.specs.Rows.{oneIf, cnt, count, total, onlyIf, each, places, Stands}
 use Rattle.assign.proofs.Lemmas.{same?, below?, holds?, clash, hit, miss}
 
 -- ---- cnt
@@ -89,11 +89,6 @@ module _ {P S : ℕ → Bool} (up : (v : ℕ) → P v ≡ true → S v ≡ true)
       (same? m n)
 
 -- ---- sums
--- f 0 + .. + f (n - 1)
-pub total : (ℕ → ℕ) → ℕ → ℕ
-total f zero = 0
-total f (suc n) = f n + total f n
-
 total-add : (f g : ℕ → ℕ) (n : ℕ) → total (λ v. f v + g v) n ≡ total f n + total g n
 unfolding total
 total-add f g zero = refl
@@ -117,50 +112,36 @@ unfolding total
 total-zero f h zero = refl
 total-zero f h (suc n) = let a = total-zero f h n in let b = h n in omega arith
 
--- k where the test holds
-pub pick : Bool → ℕ → ℕ
-pick true k = k
-pick false k = 0
+onlyIf-add : (b : Bool) (j k : ℕ) → onlyIf b (j + k) ≡ onlyIf b j + onlyIf b k
+unfolding onlyIf
+onlyIf-add true j k = refl
+onlyIf-add false j k = refl
 
-pick-add : (b : Bool) (j k : ℕ) → pick b (j + k) ≡ pick b j + pick b k
-unfolding pick
-pick-add true j k = refl
-pick-add false j k = refl
+onlyIf-zero : (b : Bool) → onlyIf b 0 ≡ 0
+unfolding onlyIf
+onlyIf-zero true = refl
+onlyIf-zero false = refl
 
-pick-zero : (b : Bool) → pick b 0 ≡ 0
-unfolding pick
-pick-zero true = refl
-pick-zero false = refl
+onlyIf-true : (b : Bool) (k : ℕ) → b ≡ true → onlyIf b k ≡ k
+unfolding onlyIf
+onlyIf-true b k h = ap (λ c. onlyIf c k) h
 
-pick-true : (b : Bool) (k : ℕ) → b ≡ true → pick b k ≡ k
-unfolding pick
-pick-true b k h = ap (λ c. pick c k) h
+onlyIf-le : (b : Bool) (j k : ℕ) → (b ≡ true → j ≤ k) → onlyIf b j ≤ onlyIf b k
+unfolding onlyIf
+onlyIf-le true j k h = h refl
+onlyIf-le false j k h = omega arith
 
-pick-le : (b : Bool) (j k : ℕ) → (b ≡ true → j ≤ k) → pick b j ≤ pick b k
-unfolding pick
-pick-le true j k h = h refl
-pick-le false j k h = omega arith
+onlyIf-one : (b : Bool) → onlyIf b 1 ≡ oneIf b
+unfolding onlyIf
+onlyIf-one true = refl
+onlyIf-one false = refl
 
-pick-one : (b : Bool) → pick b 1 ≡ oneIf b
-unfolding pick
-pick-one true = refl
-pick-one false = refl
-
-pub count-total : (S : ℕ → Bool) (n : ℕ) → total (λ v. pick (S v) 1) n ≡ count S n
+pub count-total : (S : ℕ → Bool) (n : ℕ) → total (λ v. onlyIf (S v) 1) n ≡ count S n
 unfolding total count
 count-total S zero = refl
-count-total S (suc n) = let a = count-total S n in let b = pick-one (S n) in omega arith
+count-total S (suc n) = let a = count-total S n in let b = onlyIf-one (S n) in omega arith
 
 -- ---- the double count
--- the members of S below n, each by its places in the list
-abbrev pub each : (ℕ → Bool) → ℕ → List ℕ → ℕ
-each S n a = total (λ v. pick (S v) (cnt v a)) n
-
--- the places of the list that hold a member of S below n
-pub places : (ℕ → Bool) → ℕ → List ℕ → ℕ
-places S n [] = 0
-places S n (x ∷ xs) = oneIf (ltb x n && S x) + places S n xs
-
 in-place : (S : ℕ → Bool) (x n : ℕ) → x < n → oneIf (ltb x n && S x) ≡ oneIf (S x)
 in-place S x n l = ap (λ b. oneIf (b && S x)) (lt-ltb x n l)
 
@@ -168,19 +149,19 @@ out-place : (S : ℕ → Bool) (x n : ℕ) → n ≤ x → oneIf (ltb x n && S x
 out-place S x n l = ap (λ b. oneIf (b && S x)) (le-ltb x n l)
 
 -- one place counts for one member
-one-place : (S : ℕ → Bool) (x n : ℕ) → total (λ v. pick (S v) (oneIf (eqb x v))) n ≡ oneIf (ltb x n && S x)
+one-place : (S : ℕ → Bool) (x n : ℕ) → total (λ v. onlyIf (S v) (oneIf (eqb x v))) n ≡ oneIf (ltb x n && S x)
 unfolding total
 one-place S x zero = sym (out-place S x 0 (omega arith))
 one-place S x (suc n) =
     let ih = one-place S x n in
     ⊎-elim
     (λ (q : x ≡ n).
-    let a : pick (S n) (oneIf (eqb x n)) ≡ oneIf (S x) = ap (λ b. pick (S n) (oneIf b)) (eq-eqb x n q) ∙ pick-one (S n) ∙ ap (λ k. oneIf (S k)) (sym q) in
+    let a : onlyIf (S n) (oneIf (eqb x n)) ≡ oneIf (S x) = ap (λ b. onlyIf (S n) (oneIf b)) (eq-eqb x n q) ∙ onlyIf-one (S n) ∙ ap (λ k. oneIf (S k)) (sym q) in
     let b = out-place S x n (omega arith) in
     let d = in-place S x (suc n) (omega arith) in
     omega arith)
     (λ (q : x ≡ n → ⊥).
-    let a : pick (S n) (oneIf (eqb x n)) ≡ 0 = ap (λ b. pick (S n) (oneIf b)) (ne-eqb x n q) ∙ pick-zero (S n) in
+    let a : onlyIf (S n) (oneIf (eqb x n)) ≡ 0 = ap (λ b. onlyIf (S n) (oneIf b)) (ne-eqb x n q) ∙ onlyIf-zero (S n) in
     ⊎-elim
     (λ (l : x < n). let b = in-place S x n l in let d = in-place S x (suc n) (omega arith) in omega arith)
     (λ (l : n ≤ x). let b = out-place S x n (omega arith) in let d = out-place S x (suc n) (omega arith) in omega arith)
@@ -189,18 +170,18 @@ one-place S x (suc n) =
 
 pub double-count : (S : ℕ → Bool) (n : ℕ) (a : List ℕ) → each S n a ≡ places S n a
 unfolding places cnt
-double-count S n [] = total-zero _ (λ v. pick-zero (S v)) n
+double-count S n [] = total-zero _ (λ v. onlyIf-zero (S v)) n
 double-count S n (x ∷ xs) =
     let ih = double-count S n xs in
     let h = one-place S x n in
-    let split = total-add (λ v. pick (S v) (oneIf (eqb x v))) (λ v. pick (S v) (cnt v xs)) n in
-    let whole : total (λ v. pick (S v) (oneIf (eqb x v) + cnt v xs)) n ≡ total (λ v. pick (S v) (oneIf (eqb x v)) + pick (S v) (cnt v xs)) n = simp pick-add in
+    let split = total-add (λ v. onlyIf (S v) (oneIf (eqb x v))) (λ v. onlyIf (S v) (cnt v xs)) n in
+    let whole : total (λ v. onlyIf (S v) (oneIf (eqb x v) + cnt v xs)) n ≡ total (λ v. onlyIf (S v) (oneIf (eqb x v)) + onlyIf (S v) (cnt v xs)) n = simp onlyIf-add in
     omega arith
 
 -- each member of S has a place: the set is no larger than its places
 pub count-places : (S : ℕ → Bool) (n : ℕ) (a : List ℕ) → ((v : ℕ) → v < n → S v ≡ true → 1 ≤ cnt v a) → count S n ≤ places S n a
 count-places S n a all =
-    let x = total-le (λ v. pick (S v) 1) (λ v. pick (S v) (cnt v a)) n (λ v z. pick-le (S v) _ _ (all v z)) in
+    let x = total-le (λ v. onlyIf (S v) 1) (λ v. onlyIf (S v) (cnt v a)) n (λ v z. onlyIf-le (S v) _ _ (all v z)) in
     let y = count-total S n in
     let z = double-count S n a in
     omega arith
@@ -209,11 +190,11 @@ count-places S n a all =
 pub places-count : (S : ℕ → Bool) (n : ℕ) (w : List ℕ) (m : ℕ) → m < n → S m ≡ true → cnt m w ≡ 0
     → ((v : ℕ) → v < n → S v ≡ true → cnt v w ≤ 1) → places S n w < count S n
 places-count S n w m low self none once =
-    let fw : ℕ → ℕ = λ v. pick (S v) (cnt v w) in
-    let f1 : ℕ → ℕ = λ v. pick (S v) 1 in
-    let p = pick-true (S m) (cnt m w) self in
-    let q = pick-true (S m) 1 self in
-    let x = total-lt fw f1 m (omega arith) n (λ v z. pick-le (S v) _ _ (once v z)) low in
+    let fw : ℕ → ℕ = λ v. onlyIf (S v) (cnt v w) in
+    let f1 : ℕ → ℕ = λ v. onlyIf (S v) 1 in
+    let p = onlyIf-true (S m) (cnt m w) self in
+    let q = onlyIf-true (S m) 1 self in
+    let x = total-lt fw f1 m (omega arith) n (λ v z. onlyIf-le (S v) _ _ (once v z)) low in
     let y = count-total S n in
     let z = double-count S n w in
     omega arith

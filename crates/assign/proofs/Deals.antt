@@ -1,18 +1,20 @@
 -- Assignments as 32 bytes: the members served one by one, and one exchange. Assumes nothing.
 use mathlib.Core.Path.{_≡_, refl, sym, ap, _∙_, subst}
 use mathlib.Core.Logic.{_⊎_, inl, inr, ⊎-elim}
-use mathlib.Core.Bool.{Bool, true, false, _&&_, _||_}
-use mathlib.Core.List.{List, [], _∷_}
-use Prim.Native.Nat.{ℕ, zero, suc, _+_, _-_, _≤_, _<_}
+use mathlib.Core.Bool.{Bool, true}
+use mathlib.Core.List.{List}
+use Prim.Native.Nat.{ℕ, _+_, _-_, _≤_, _<_}
 use native.Mathlib.Omega.{arith}
 use lib.Dec.{eqb}
 use lib.ListN.{length, getD, set, replicate, length-set, length-replicate, getD-replicate}
 use lib.Seq.{getD-set-same, getD-set-other}
 use Rattle.assign.specs.Rows.{oneIf, may, between, cnt}
 use Rattle.assign.specs.Assignment.{Short}
-use Rattle.assign.specs.Search.{within, fits, Served, Blocked, Dealt, Agrees, Tries, Asks}
-use Rattle.assign.proofs.Lemmas.{same?, below?, holds?, clash, and-left, and-right, both, between-in, between-from, between-to, hit, miss}
-use Rattle.assign.proofs.Counting.{cnt-set, cnt-at, cnt-place, cnt-none, cnt-two, cnt-replicate}
+use Rattle.assign.specs.Chain.{within, Served, Blocked}
+use Rattle.assign.specs.Saturate.{fits, Dealt}
+use Rattle.assign.specs.Refine.{Tries, Asks}
+use Rattle.assign.proofs.Lemmas.{same?, below?, and-left, and-right, both, between-in, between-from, between-to, hit, miss}
+use Rattle.assign.proofs.Counting.{cnt-set, cnt-at, cnt-place}
 use Rattle.assign.proofs.Groups.{blocked-never, blocked-short}
 
 -- ---- what fits
@@ -245,7 +247,7 @@ module _ {rows : List ℕ} {first k from to : ℕ} {w : List ℕ} {e m : ℕ} (b
           let size = ask .dealt .size in
           let once-a : (v : ℕ) → between first (first + k) v ≡ true → 1 ≤ cnt v a = λ v i. let o = t .dealt .once v (between-from first (first + k) v i) (between-to first (first + k) v i) in omega arith in
           blocked-never b (swap-size w p e m size later low there) held owner-left
-          (λ v l. let c = swap-cnt w p e m size later low there v (omega arith) in let o = dealt-one (ask .dealt) v (omega arith) in omega arith)
+          (λ v l g. let c = swap-cnt w p e m size later low there v (omega arith) in let o = dealt-one (ask .dealt) v (omega arith) in omega arith)
           a (t .dealt .size)
           (λ i l z. ⊎-elim
           (λ (q : i < e). inl (t .agrees i q ∙ sym (swap-before w p e m size later low there i q)))

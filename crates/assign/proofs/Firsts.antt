@@ -1,16 +1,23 @@
 -- From an assignment to the first: the least member at one place, and the places from left to right. Assumes nothing.
 use mathlib.Core.Path.{_≡_, refl, sym, ap, _∙_, subst}
 use mathlib.Core.Logic.{_⊎_, inl, inr, ⊎-elim}
-use mathlib.Core.Bool.{Bool, true, false}
-use mathlib.Core.List.{List, [], _∷_}
-use Prim.Native.Nat.{ℕ, zero, suc, _+_, _-_, _≤_, _<_, min}
+use mathlib.Core.Bool.{Bool, true, false, _&&_}
+use mathlib.Core.List.{List}
+use Prim.Native.Nat.{ℕ, _+_, _-_, _≤_, _<_}
 use native.Mathlib.Omega.{arith}
-use lib.ListN.{length, getD}
-use Rattle.assign.specs.Rows.{may, between, cnt, Plus}
-use Rattle.assign.specs.Search.{Flipped, within, fits, Dealt, Later, Rival, Rivals, Agrees, Tries, Asks, Exchanged, Improved, Sooner, Leads}
-use Rattle.assign.proofs.Lemmas.{same?, below?, clash, between-in, between-from, between-to}
-use Rattle.assign.proofs.Counting.{cnt-at, cnt-place, cnt-two}
-use Rattle.assign.proofs.Deals.{dealt-fits, dealt-block, fits-block, fits-within, within-may, within-piece}
+use lib.Dec.{eqb}
+use lib.ListN.{length, getD, set, length-set}
+use lib.Seq.{getD-set-same, getD-set-other}
+use Rattle.assign.specs.Rows.{oneIf, may, between, cnt, Plus}
+use Rattle.assign.specs.Visit.{Flipped}
+use Rattle.assign.specs.Chain.{Opened, reach, within, Stuck, Blocked}
+use Rattle.assign.specs.Saturate.{Dealt}
+use Rattle.assign.specs.Refine.{Later, Rival, Rivals, Candidates, Agrees, Tries, Asks, Exchanged, Improved, Sooner, Leads}
+use Rattle.assign.proofs.Lemmas.{same?, below?, holds?, clash, not-so, and-left, both, between-from, between-to, hit, miss}
+use Rattle.assign.proofs.Counting.{cnt-set, cnt-at, cnt-place, cnt-two}
+use Rattle.assign.proofs.Chains.{within-reach}
+use Rattle.assign.proofs.Groups.{blocked-never}
+use Rattle.assign.proofs.Deals.{dealt-fits, dealt-block, dealt-one, fits-block, fits-within, within-in, within-may, within-piece}
 
 -- a byte of an assignment: 255, or a member of the block that may take the element
 pub byte : {rows : List ℕ} {first k from to : ℕ} {a : List ℕ} → Dealt rows first k from to a → (e : ℕ) → e < 32
@@ -69,6 +76,76 @@ module _ {rows w : List ℕ} {e p : ℕ} {C : ℕ → Bool} (h : Rivals rows w e
         (same? m (getD w p 0));
   }
 
+-- ---- the candidates
+pub candidates-all : {rows w : List ℕ} {e to : ℕ} {C : ℕ → Bool} → Rivals rows w e to C → Candidates rows w e to C
+candidates-all h = record { sound = h .sound; rest = λ first k from block after d m r c a t. clash (h .complete m r) c }
+
+-- a rival that no chain from the owner of e leads to cannot have e: the group of the chain would have one place less
+module _ {rows : List ℕ} {F H P S G : ℕ → Bool} {w : List ℕ} {e to m : ℕ} (new : (v : ℕ) → P v ≡ false) (held : getD w e 0 < 32) (end : to ≤ 32) (o : Opened w (e + 1) to F H)
+    (h : Stuck (reach rows F H) P S H G w (getD w e 0)) (r : Rival rows w e to m) (out : S m ≡ false) where
+  pub unreached-never : (first k from : ℕ) → first + k ≤ 32 → from ≤ e → Dealt rows first k from to w → (a : List ℕ) → Tries rows first k from to w e m a → ⊥
+  unreached-never first k from block after d a t =
+      let owner = getD w e 0 in
+      let x = set w e m in
+      let size = d .size in
+      let before-end : e < 32 = let p = r .later .after in let q = r .later .early in omega arith in
+      let fits-w : e < length w = omega arith in
+      let below = r .below in
+      let counted : (v : ℕ) → cnt v x + oneIf (eqb owner v) ≡ cnt v w + oneIf (eqb m v) = λ v. cnt-set v w e m fits-w in
+      let in-block : (v : ℕ) → v < 32 → 1 ≤ cnt v w → 1 ≤ cnt v a = λ v l c.
+      let b = dealt-block d v (omega arith) c in
+      let one = t .dealt .once v (between-from first (first + k) v b) (between-to first (first + k) v b) in
+      omega arith in
+      let later = r .later in
+      let m-there : 1 ≤ cnt m w = let early = later .early in subst (λ (v : ℕ). 1 ≤ cnt v w) (later .here) (cnt-at w (later .place) (omega arith)) in
+      let owner-there : 1 ≤ cnt owner w = cnt-at w e fits-w in
+      let owner-one = dealt-one d owner (omega arith) in
+      let blocked : Blocked (within rows (e + 1) to) x owner = record {
+        group = S;
+        self = h .self;
+        holders = λ v s. ⊎-elim inl
+            (λ (q : (v < 32) × (1 ≤ cnt v w)). ⊎-elim inl
+            (λ (n : v ≡ owner → ⊥). let c = counted v in let z = miss owner v (λ q. n (sym q)) in let y = q .1 in inr (q .0, omega arith))
+            (same? v owner))
+            (h .holders v s (new v));
+        closed = λ v s i l g.
+            let b = within-piece rows (e + 1) to v i g in
+            let f = between-from (e + 1) to i b in
+            let owned = h .closed v s (new v) i l (within-reach rows (e + 1) to F H v i (o .all i) g) in
+            let same = getD-set-other w e i m 0 (λ q. omega arith) in
+            record { low = subst (λ (y : ℕ). y < 32) (sym same) (owned .low); seen = subst (λ (y : ℕ). S y ≡ true) (sym same) (owned .seen) };
+      } in
+      blocked-never blocked (length-set w e m ∙ size) held
+      (let c = counted owner in let z = hit owner owner refl in let y = miss m owner (λ q. omega arith) in omega arith)
+      (λ v l s.
+      let c = counted v in
+      let one = dealt-one d v (omega arith) in
+      let z = miss m v (λ q. clash s (subst (λ (y : ℕ). S y ≡ false) q out)) in
+      omega arith)
+      a (t .dealt .size)
+      (λ i l z. ⊎-elim
+      (λ (q : i < e). inl (t .agrees i q ∙ sym (getD-set-other w e i m 0 (λ y. omega arith))))
+      (λ (q : e ≤ i). ⊎-elim
+      (λ (p : i ≡ e). inl (ap (λ (j : ℕ). getD a j 0) p ∙ t .takes ∙ sym (getD-set-same w e m 0 fits-w) ∙ ap (λ (j : ℕ). getD x j 0) (sym p)))
+      (λ (p : i ≡ e → ⊥).
+      let f = fits-within rows first k from to _ i (dealt-fits (t .dealt) i l (omega arith)) in
+      inr (within-in rows (e + 1) to _ i (within-may rows from to _ i f) (omega arith) (between-to from to i (within-piece rows from to _ i f))))
+      (same? i e))
+      (below? i e))
+      (in-block owner held owner-there)
+      (λ v l n. ⊎-elim
+      (λ (q : v ≡ m). in-block v l (subst (λ (y : ℕ). 1 ≤ cnt y w) (sym q) m-there))
+      (λ (q : v ≡ m → ⊥). let c = counted v in let z = miss m v (λ p. q (sym p)) in in-block v l (omega arith))
+      (same? v m))
+
+pub candidates-reached : {rows w : List ℕ} {e to : ℕ} {C D F H P S G : ℕ → Bool} → Rivals rows w e to C → ((v : ℕ) → P v ≡ false) → getD w e 0 < 32 → to ≤ 32 → Opened w (e + 1) to F H
+    → Stuck (reach rows F H) P S H G w (getD w e 0) → ((m : ℕ) → D m ≡ (C m && S m)) → Candidates rows w e to D
+candidates-reached {C = C} {S = S} h new held end o stuck both-of = record {
+  sound = λ m c. h .sound m (and-left (C m) (S m) (sym (both-of m) ∙ c));
+  rest = λ first k from block after d m r c. unreached-never new held end o stuck r
+      (not-so (S m) (λ s. clash (both-of m ∙ both (C m) (S m) (h .complete m r) s) c)) first k from block after d;
+}
+
 -- ---- the least member at e: an assignment that is as w before e and has a smaller byte at e has one of C there
 pub record Going (rows : List ℕ) (first k from to : ℕ) (w : List ℕ) (e : ℕ) (C : ℕ → Bool) : Type 0 where
   pub going : (a : List ℕ) → Dealt rows first k from to a → Agrees a w e → getD a e 0 < getD w e 0 → C (getD a e 0) ≡ true
@@ -100,8 +177,8 @@ module _ {rows : List ℕ} {first k from to : ℕ} {w : List ℕ} {e : ℕ} (blo
       (same? i e))
       (below? i e)
 
-  pub going-start : {C : ℕ → Bool} → Rivals rows w e to C → Going rows first k from to w e C
-  going-start h = record {
+  pub going-start : {C : ℕ → Bool} → from ≤ e → Candidates rows w e to C → Going rows first k from to w e C
+  going-start {C} after h = record {
     going = λ a da g less. ⊎-elim
         (λ (q : getD a e 0 ≡ 255). ⊎-elim
         (λ (r : getD w e 0 ≡ 255). absurd (omega arith))
@@ -109,7 +186,11 @@ module _ {rows : List ℕ} {first k from to : ℕ} {w : List ℕ} {e : ℕ} (blo
         (byte d e low))
         (λ (q : (first ≤ getD a e 0) × (getD a e 0 < first + k) × (may rows (getD a e 0) e ≡ true)).
         let z = q .1 in
-        h .complete (getD a e 0) (record { low = omega arith; below = less; may-take = q .2; later = stands-later a da g less (omega arith) }))
+        let rival : Rival rows w e to (getD a e 0) = record { low = omega arith; below = less; may-take = q .2; later = stands-later a da g less (omega arith) } in
+        ⊎-elim
+        (λ (c : C (getD a e 0) ≡ true). c)
+        (λ (c : C (getD a e 0) ≡ false). absurd (h .rest first k from block after d (getD a e 0) rival c a (record { dealt = da; agrees = g; takes = refl })))
+        (holds? (C (getD a e 0))))
         (byte da e low);
   }
 
@@ -200,12 +281,12 @@ leads-step {rows} {first} {k} {from} {to} {w} {x} {e} h m = record {
 }
 
 -- the last place: there is none after it to change with
-pub leads-last : {rows : List ℕ} {first k from to : ℕ} {w : List ℕ} {e : ℕ} → first + k ≤ 32 → to ≤ 32 → to ≤ e + 1 → e ≤ to → Leads rows first k from to w e → Leads rows first k from to w to
-leads-last {rows} {first} {k} {from} {to} {w} {e} block end l z h = ⊎-elim
+pub leads-last : {rows : List ℕ} {first k from to : ℕ} {w : List ℕ} {e : ℕ} → first + k ≤ 32 → to ≤ 32 → from ≤ e → to ≤ e + 1 → e ≤ to → Leads rows first k from to w e → Leads rows first k from to w to
+leads-last {rows} {first} {k} {from} {to} {w} {e} block end after l z h = ⊎-elim
     (λ (q : e ≡ to). subst (λ (i : ℕ). Leads rows first k from to w i) q h)
     (λ (n : e ≡ to → ⊥).
     let q : e + 1 ≡ to = omega arith in
     let r : Rivals rows w e to (λ v. false) = subst (λ (i : ℕ). Rivals rows w e i (λ v. false)) q (rivals-none (λ v. refl)) in
     let low : e < 32 = omega arith in
-    subst (λ (i : ℕ). Leads rows first k from to w i) q (leads-step h (going-done block low (h .dealt) (going-start block low (h .dealt) r) (λ j. refl))))
+    subst (λ (i : ℕ). Leads rows first k from to w i) q (leads-step h (going-done block low (h .dealt) (going-start block low (h .dealt) after (candidates-all r)) (λ j. refl))))
     (same? e to)

@@ -3,19 +3,19 @@
 -- blocked-short: the group of a failed search is short of elements. short-never: where a group is short there is no assignment.
 use mathlib.Core.Path.{_≡_, refl, sym, ap, _∙_, subst}
 use mathlib.Core.Logic.{_⊎_, inl, inr, ⊎-elim}
-use mathlib.Core.Bool.{Bool, true, false, _&&_, _||_}
-use mathlib.Core.List.{List, [], _∷_}
+use mathlib.Core.Bool.{Bool, true, _&&_}
+use mathlib.Core.List.{List}
 use Prim.Native.Nat.{ℕ, zero, suc, _+_, _-_, _≤_, _<_}
 use native.Mathlib.Nat.{not-suc-le-zero}
 use native.Mathlib.Omega.{arith}
 use lib.Dec.{eqb}
 use lib.ListN.{length, getD}
-use borrow.Author.Tests.{eqb-true}
+use borrow.Author.Tests.{eqb-true, eq-eqb}
 use Rattle.assign.specs.Rows.{may, between, cnt, count, anyBelow}
-use Rattle.assign.specs.Assignment.{takes, Assigns, wanted, joined, Short}
-use Rattle.assign.specs.Search.{within, Owned, Blocked}
-use Rattle.assign.proofs.Lemmas.{same?, below?, holds?, clash, and-left, and-right, both, one-of, or-left, or-right, between-in, between-from, between-to}
-use Rattle.assign.proofs.Counting.{places, count-places, places-count, places-le, places-into, places-onto}
+use Rattle.assign.specs.Assignment.{takes, Assigns, wanted, Short}
+use Rattle.assign.specs.Chain.{within, Blocked}
+use Rattle.assign.proofs.Lemmas.{same?, clash, and-left, and-right, both, one-of, or-left, or-right, between-in, between-from, between-to}
+use Rattle.assign.proofs.Counting.{count-places, places-count, places-le, places-into, places-onto}
 
 -- ---- a member below n
 pub any-found : (P : ℕ → Bool) (n : ℕ) → anyBelow P n ≡ true → (v : ℕ) × (v < n) × (P v ≡ true)
@@ -54,9 +54,17 @@ takes-inv rows first k e x h = ⊎-elim
     (λ (p : (between first (first + k) x && may rows x e) ≡ true). inr (and-left (between first (first + k) x) (may rows x e) p, and-right (between first (first + k) x) (may rows x e) p))
     (one-of (eqb x 255) (between first (first + k) x && may rows x e) h)
 
+pub takes-spare : (rows : List ℕ) (first k e x : ℕ) → x ≡ 255 → takes rows first k e x ≡ true
+unfolding takes
+takes-spare rows first k e x q = or-left (eqb x 255) (between first (first + k) x && may rows x e) (eq-eqb x 255 q)
+
+pub takes-member : (rows : List ℕ) (first k e x : ℕ) → between first (first + k) x ≡ true → may rows x e ≡ true → takes rows first k e x ≡ true
+unfolding takes
+takes-member rows first k e x b r = or-right (eqb x 255) (between first (first + k) x && may rows x e) (both (between first (first + k) x) (may rows x e) b r)
+
 -- ---- the group of a failed search
 module _ {ok : ℕ → ℕ → Bool} {w : List ℕ} {m : ℕ} (b : Blocked ok w m) (size : length w ≡ 32) (low : m < 32) (none : cnt m w ≡ 0)
-    (once : (v : ℕ) → v < 32 → cnt v w ≤ 1) where
+    (once : (v : ℕ) → v < 32 → b .group v ≡ true → cnt v w ≤ 1) where
   pub blocked-never : (a : List ℕ) → length a ≡ 32
       → ((e : ℕ) → e < 32 → getD a e 0 < 32 → (getD a e 0 ≡ getD w e 0) ⊎ (ok (getD a e 0) e ≡ true))
       → 1 ≤ cnt m a → ((v : ℕ) → v < 32 → 1 ≤ cnt v w → 1 ≤ cnt v a) → ⊥
@@ -66,7 +74,7 @@ module _ {ok : ℕ → ℕ → Bool} {w : List ℕ} {m : ℕ} (b : Blocked ok w 
       (λ (q : getD a e 0 ≡ getD w e 0). (rw (← q) z, rw (← q) s))
       (λ (o : ok (getD a e 0) e ≡ true). let h = b .closed _ s e (omega arith) o in (h .low, h .seen))
       (moved e (omega arith) z)) in
-      let y = places-count group 32 w m low (b .self) none (λ v l s. once v l) in
+      let y = places-count group 32 w m low (b .self) none once in
       let z = count-places group 32 a (λ v l s. ⊎-elim
       (λ (p : v ≡ m). rw p self)
       (λ (p : (v < 32) × (1 ≤ cnt v w)). all v l (p .1))

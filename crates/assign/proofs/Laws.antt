@@ -3,7 +3,8 @@
 -- It looks at the left parts first where they are of one length: earlier-append-same, earlier-append-left, earlier-append-not.
 -- The first is unique (first-unique); firsts of sets that are the same are the same (first-same); the first of a concatenation of
 -- pieces, the left ones of one length, is the concatenation of the firsts (first-joins, none-joins-left, none-joins-right); the first of a union is
--- the lesser of the firsts (first-union), or the first of the one that has any (first-union-left, first-union-right).
+-- the lesser of the firsts (first-union), or the first of the one that has any (first-union-left, first-union-right); the first n bytes
+-- of the first are the first of the first n bytes (first-starts).
 use mathlib.Core.Path.{_≡_, refl, sym, ap, ap₂, _∙_, subst}
 use mathlib.Core.Logic.{_⊎_, inl, inr, ⊎-elim}
 use mathlib.Core.Bool.{Bool, true, false, _&&_, _||_}
@@ -12,10 +13,11 @@ use Prim.Native.Nat.{ℕ, zero, suc, _+_, _≤_, _<_, suc-le-suc}
 use native.Mathlib.Nat.{not-suc-le-zero}
 use native.Mathlib.Omega.{arith}
 use lib.Dec.{eqb, ltb}
-use lib.ListN.{length, getD}
+use lib.ListN.{length, getD, take, drop, take-append-drop}
+use lib.Seq.{length-take-le}
 use borrow.Author.Tests.{eq-eqb, ne-eqb, lt-ltb, le-ltb, ltb-true, eqb-true}
-use Rattle.assign.specs.Order.{earlier, choose, lesser, First, Joins}
-use Rattle.assign.proofs.Lemmas.{same?, below?, holds?, clash, not-so, one-of, and-left, and-right}
+use Rattle.assign.specs.Order.{earlier, choose, lesser, First, Joins, Starts}
+use Rattle.assign.proofs.Lemmas.{below?, holds?, clash, not-so, one-of, and-left, and-right}
 
 -- ---- the heads decide, or the tails do
 head-less : (x y : ℕ) (xs ys : List ℕ) → x < y → earlier (x ∷ xs) (y ∷ ys) ≡ true
@@ -128,6 +130,17 @@ first-joins {a} {b} n long p q = record {
   least = λ v j. ap (λ l. earlier l (a ++ b)) (j .whole) ∙ earlier-append-not (j .left) a (j .right) b
       (long (j .left) (j .onLeft) ∙ sym (long a (p .holds))) (p .least (j .left) (j .onLeft)) (q .least (j .right) (j .onRight));
 }
+
+pub first-starts : {P : List ℕ → Type 0} {w : List ℕ} (n : ℕ) → n ≤ length w → First P w → First (Starts P n) (take n w)
+first-starts {P} {w} n l p =
+    let split = take-append-drop n w in
+    let long = length-take-le n w l in
+    record {
+      holds = record { rest = drop n w; whole = subst P (sym split) (p .holds); size = long };
+      least = λ v s. not-so (earlier v (take n w)) (λ e.
+          let all = earlier-append-left v (take n w) (s .rest) (drop n w) (s .size ∙ sym long) e in
+          clash (subst (λ (x : List ℕ). earlier (v ++ s .rest) x ≡ true) split all) (p .least (v ++ s .rest) (s .whole)));
+    }
 
 pub none-joins-left : {P Q : List ℕ → Type 0} → ((v : List ℕ) → P v → ⊥) → (v : List ℕ) → Joins P Q v → ⊥
 none-joins-left never v j = never (j .left) (j .onLeft)

@@ -4,10 +4,10 @@ pub mod Counting
 pub mod Masks
 pub mod Chains
 pub mod Groups
+pub mod Assignments
 pub mod Deals
 pub mod Firsts
 pub mod Pieces
-pub mod Tests
 pub mod Claims
 pub mod Unique
 pub mod Examples

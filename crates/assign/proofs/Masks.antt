@@ -1,19 +1,19 @@
 -- The bits of a mask. Assumes nothing.
 use mathlib.Core.Path.{_≡_, refl, sym, ap, ap₂, _∙_, subst}
 use mathlib.Core.Logic.{_⊎_, inl, inr, ⊎-elim}
-use mathlib.Core.Bool.{Bool, true, false, not, _||_, _&&_, or-false, or-true, and-true}
+use mathlib.Core.Bool.{Bool, true, false, not, _||_, _&&_, or-false, or-true}
 use Prim.Native.Nat.{ℕ, zero, suc, _+_, _-_, _*_, _/_, _%_, _^_, _≤_, _<_, max, min}
 use native.Mathlib.Nat.{not-suc-le-zero, le-of-suc-le-suc, one-mul, div-self, div-eq-of-lt, zero-div, mod-lt, pow-suc, pow-succ', div-div-eq-div-mul, div-one}
 use native.Mathlib.Omega.{arith}
 use lib.Dec.{eqb, lit<}
 use borrow.Author.Tests.{eq-eqb, ne-eqb}
 use lib.Bits.{bitOr, bitAnd, bitXor, differ, or-shr, or-step, and-shr, and-step, xor-shr, xor-step, shifted-even}
-use lib.Pow.{pow-pos, pow-lt, pow-add, shl-exact, shl-shr, shr-lt}
-use lib.Count.{trailingZeros, under, trailing-le}
+use lib.Pow.{pow-pos, pow-lt, pow-add, shl-exact, shl-shr}
+use lib.Count.{trailingZeros, under}
 use lib.ListN.{getD}
 use mathlib.Core.List.{List}
 use Rattle.assign.specs.Rows.{bit, may, Plus}
-use Rattle.assign.specs.Search.{Flipped, Lowest}
+use Rattle.assign.specs.Visit.{Flipped, Lowest}
 use Rattle.assign.proofs.Lemmas.{same?, below?, clash, and-left, and-right}
 
 -- ---- and, or, exclusive or, bit by bit

@@ -1,33 +1,23 @@
 -- Assignments of a piece, and the same as 32 bytes with 255 around. Assumes nothing.
 use mathlib.Core.Path.{_≡_, refl, sym, ap, _∙_, subst}
 use mathlib.Core.Logic.{_⊎_, inl, inr, ⊎-elim}
-use mathlib.Core.Bool.{Bool, true, false, _&&_, _||_}
-use mathlib.Core.List.{List, [], _∷_, _++_}
-use Prim.Native.Nat.{ℕ, zero, suc, _+_, _-_, _≤_, _<_, min}
+use mathlib.Core.Bool.{true, false}
+use mathlib.Core.List.{List, _++_}
+use Prim.Native.Nat.{ℕ, _+_, _-_, _≤_, _<_}
 use native.Mathlib.Omega.{arith}
-use lib.Dec.{eqb}
 use lib.ListN.{length, getD, take, drop, replicate, length-append, length-take, length-drop, length-replicate, getD-replicate, take-append-drop, List·getD-append}
 use lib.Seq.{slice, length-slice, getD-take, getD-drop, getD-append-add, ext-getD}
-use borrow.Author.Tests.{eq-eqb}
 use Rattle.assign.specs.Rows.{may, between, cnt}
 use Rattle.assign.specs.Order.{earlier, First}
 use Rattle.assign.specs.Assignment.{takes, Assigns, Short, Answer}
-use Rattle.assign.specs.Search.{fits, within, Dealt, Agrees, Sooner, Leads}
-use Rattle.assign.proofs.Lemmas.{same?, below?, clash, both, or-left, or-right, not-so, between-in, between-from, between-to}
+use Rattle.assign.specs.Saturate.{fits, Dealt}
+use Rattle.assign.specs.Refine.{Agrees, Sooner, Leads}
+use Rattle.assign.proofs.Lemmas.{below?, clash, not-so, between-from, between-to}
 use Rattle.assign.proofs.Laws.{earlier-irreflexive, earlier-asymmetric, earlier-at}
 use Rattle.assign.proofs.Counting.{cnt-append, cnt-replicate, cnt-none}
-use Rattle.assign.proofs.Groups.{takes-inv, short-never}
-use Rattle.assign.proofs.Deals.{within-may, within-piece, within-in, fits-block, fits-within, fits-in}
+use Rattle.assign.proofs.Groups.{takes-inv, takes-spare, takes-member, short-never}
+use Rattle.assign.proofs.Deals.{within-may, within-in, fits-block, fits-within, fits-in}
 use Rattle.assign.proofs.Firsts.{dealt-outside, byte}
-
--- ---- what a byte of an assignment is
-pub takes-spare : (rows : List ℕ) (first k e x : ℕ) → x ≡ 255 → takes rows first k e x ≡ true
-unfolding takes
-takes-spare rows first k e x q = or-left (eqb x 255) (between first (first + k) x && may rows x e) (eq-eqb x 255 q)
-
-pub takes-member : (rows : List ℕ) (first k e x : ℕ) → between first (first + k) x ≡ true → may rows x e ≡ true → takes rows first k e x ≡ true
-unfolding takes
-takes-member rows first k e x b r = or-right (eqb x 255) (between first (first + k) x && may rows x e) (both (between first (first + k) x) (may rows x e) b r)
 
 -- ---- a piece of a list
 pub slice-at : (from to : ℕ) (w : List ℕ) (i : ℕ) → i < to - from → getD (slice from to w) i 0 ≡ getD w (from + i) 0

@@ -1,5 +1,5 @@
 -- The contracts of the public functions allow one result each. Stated of the contracts themselves, as the check reads them. Assumes nothing.
-use mathlib.Core.Path.{_≡_, refl, sym, ap₂, _∙_}
+use mathlib.Core.Path.{_≡_, sym, ap₂, _∙_}
 use mathlib.Core.Bool.{Bool}
 use mathlib.Core.List.{List}
 use Prim.Native.Nat.{ℕ}
@@ -19,16 +19,16 @@ use Rattle.assign.proofs.mask.with.Kinds as with-kinds
 abbrev made : Bool → List ℕ → Found
 made found w = record { found = found; w = w }
 
-pub unique-first-assignment : (κs : Lfts 1) (a : Dens κs kinds.ps) (r r' : resT kinds.r κs .Denot) (s s' : AtExit (endedOf 1 kinds.ps kinds.r) κs)
+pub first-assignment-unique : (κs : Lfts 1) (a : Dens κs kinds.ps) (r r' : resT kinds.r κs .Denot) (s s' : AtExit (endedOf 1 kinds.ps kinds.r) κs)
     → reads.Pre κs a → reads.Post κs a r s → reads.Post κs a r' s' → r ≡ r'
-unique-first-assignment κs a r r' s s' h p q =
+first-assignment-unique κs a r r' s s' h p q =
     let u = unique _ _ _ _ _ _ _ _ _ (h .1) (h .2) p q in
     ap₂ made (u .0) (u .1)
 
-pub unique-has : (κs : Lfts 0) (a : Dens κs has-kinds.ps) (r r' : resT has-kinds.r κs .Denot) (s s' : AtExit (endedOf 0 has-kinds.ps has-kinds.r) κs)
+pub has-unique : (κs : Lfts 0) (a : Dens κs has-kinds.ps) (r r' : resT has-kinds.r κs .Denot) (s s' : AtExit (endedOf 0 has-kinds.ps has-kinds.r) κs)
     → has-reads.Post κs a r s → has-reads.Post κs a r' s' → r ≡ r'
-unique-has κs a r r' s s' p q = p ∙ sym q
+has-unique κs a r r' s s' p q = p ∙ sym q
 
-pub unique-with : (κs : Lfts 0) (a : Dens κs with-kinds.ps) (r r' : resT with-kinds.r κs .Denot) (s s' : AtExit (endedOf 0 with-kinds.ps with-kinds.r) κs)
+pub with-unique : (κs : Lfts 0) (a : Dens κs with-kinds.ps) (r r' : resT with-kinds.r κs .Denot) (s s' : AtExit (endedOf 0 with-kinds.ps with-kinds.r) κs)
     → with-reads.Post κs a r s → with-reads.Post κs a r' s' → r ≡ r'
-unique-with κs a r r' s s' p q = bits-same r r' (plus-same p q)
+with-unique κs a r r' s s' p q = bits-same r r' (plus-same p q)

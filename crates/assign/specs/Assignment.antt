@@ -3,7 +3,10 @@
 -- element, or 255 (the element is spare); each member of the block stands in it exactly once.
 -- takes rows first k e x          == the byte x is right for the element e
 -- Assigns rows first k from to a <-> a is an assignment of the piece by the block
+-- allRight rows first k e a       == each byte of a is right for its element, the first of which is e
+-- allOnce first k a               == each of the k members from `first` on stands in a once
 -- assigns rows first k from a     == the same as a test, of a list of any length: a assigns the elements from `from` on
+-- wanted rows group e             == some member of the group may take the element e
 -- joined rows group from to       == how many elements of the piece some member of the group may take
 -- Short rows first k from to     <-> a group of members of the block may take too few elements of the piece
 -- Answer rows first k from to found w <-> what `first_assignment` gives: where there is an assignment, the first in byte order, at
@@ -27,12 +30,10 @@ pub record Assigns (rows : List ℕ) (first k from to : ℕ) (a : List ℕ) : Ty
   pub right : (i : ℕ) → i < length a → takes rows first k (from + i) (getD a i 0) ≡ true
   pub once : (m : ℕ) → first ≤ m → m < first + k → cnt m a ≡ 1
 
--- each byte is right for its element, the first of which is e
 unfoldable pub allRight : List ℕ → ℕ → ℕ → ℕ → List ℕ → Bool
 allRight rows first k e [] = true
 allRight rows first k e (x ∷ xs) = takes rows first k e x && allRight rows first k (suc e) xs
 
--- each of the k members from `first` on stands in the list once
 unfoldable pub allOnce : ℕ → ℕ → List ℕ → Bool
 allOnce first zero a = true
 allOnce first (suc k) a = eqb (cnt (first + k) a) 1 && allOnce first k a
@@ -40,7 +41,6 @@ allOnce first (suc k) a = eqb (cnt (first + k) a) 1 && allOnce first k a
 unfoldable pub assigns : List ℕ → ℕ → ℕ → ℕ → List ℕ → Bool
 assigns rows first k from a = allRight rows first k from a && allOnce first k a
 
--- some member of the group may take the element e
 unfoldable pub wanted : List ℕ → (ℕ → Bool) → ℕ → Bool
 wanted rows group e = anyBelow (λ v. group v && may rows v e) 32
 

@@ -4,7 +4,7 @@ ghost use mathlib.Core.Bool.{true};
 ghost use Prim.Native.Nat.{_<_, _≤_};
 ghost use lib.ListN.{set};
 ghost use Rattle.assign.specs.Rows.{bit};
-ghost use Rattle.assign.specs.Search.{Opened, Ready, Settled, Placed, within};
+ghost use Rattle.assign.specs.Chain.{Opened, Ready, Settled, Placed, within};
 use crate::Found;
 use crate::mask::has;
 use crate::mask::with;

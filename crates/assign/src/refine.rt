@@ -2,10 +2,13 @@
 ghost use mathlib.Core.Path.{_≡_};
 ghost use Prim.Native.Nat.{ℕ, _+_, _<_, _≤_, min};
 ghost use Rattle.assign.specs.Rows.{bit, Stands};
-ghost use Rattle.assign.specs.Search.{Rivals, Last, Later, Asks, Exchanged, Dealt, Improved, Leads};
+ghost use Rattle.assign.specs.Saturate.{Dealt};
+ghost use Rattle.assign.specs.Refine.{Rivals, Candidates, Last, Later, Asks, Exchanged, Improved, Leads};
 use crate::Found;
 use crate::SPARE;
+use crate::chain::open_places;
 use crate::chain::place;
+use crate::chain::settle;
 use crate::mask::has;
 use crate::mask::with;
 use crate::visit::flip;
@@ -36,6 +39,28 @@ fn rivals(rows: &[u32; 32], to: u8, w: [u8; 32], e: u8) -> u32
         p += 1;
     }
     found
+}
+
+// Of the rivals, those to whom a chain from the holder of e leads: if another one took e, the holder would have no place.
+// So one search rules out all whose trial would fail.
+fn candidates(rows: &[u32; 32], to: u8, w: [u8; 32], e: u8) -> u32
+    requires { ⌜ (e < to) × (to ≤ 32) ⌝ }
+    ensures { λ r. ⌜ Candidates (now (rows .entry)) w e to (bit r) ⌝ }
+{
+    let all = rivals(rows, to, w, e);
+    if all == 0 {
+        return all;
+    }
+    let holder = w[e as usize];
+    if holder >= 32 {
+        return all;
+    }
+    let open = open_places(w, e + 1, to);
+    let c = settle(rows, open.free, open.held, w, holder, 0);
+    if c.found {
+        return all;
+    }
+    all & c.seen
 }
 
 // The last place before `to` that holds m.
@@ -76,7 +101,7 @@ fn improve(rows: &[u32; 32], to: u8, w: [u8; 32], e: u8) -> [u8; 32]
     requires { ⌜ (e < to) × (to ≤ 32) ⌝ }
     ensures { λ r. ⌜ ((first k from : ℕ) → first + k ≤ 32 → from ≤ e → Dealt (now (rows .entry)) first k from to w → Improved (now (rows .entry)) first k from to w e r) ⌝ }
 {
-    let mut left = rivals(rows, to, w, e);
+    let mut left = candidates(rows, to, w, e);
     while left != 0 {
         let m = lowest(left);
         let c = exchange(rows, to, w, e, m);

@@ -1,7 +1,7 @@
 // An assignment of the piece by the block, if there is one: the members are served in turn.
 ghost use mathlib.Core.Path.{_≡_};
 ghost use Prim.Native.Nat.{_+_, _≤_};
-ghost use Rattle.assign.specs.Search.{Saturated};
+ghost use Rattle.assign.specs.Saturate.{Saturated};
 use crate::Found;
 use crate::SPARE;
 use crate::chain::open_places;

@@ -47,6 +47,19 @@ fn ring(n: u8) -> [u32; 32]
     rows
 }
 
+// Member m may take all elements but the last m: the only assignment is the list turned round.
+fn falling_stairs() -> [u32; 32] {
+    let mut rows = [0u32; 32];
+    let mut row: u32 = 0xffff_ffff;
+    let mut m: usize = 0;
+    while m < 32 {
+        rows[m] = row;
+        row = row / 2;
+        m += 1;
+    }
+    rows
+}
+
 // Every member may take every element.
 fn all_ones() -> [u32; 32] {
     [0xffff_ffff; 32]
@@ -67,6 +80,9 @@ fn staircases() {
     let mut full = ring(32);
     full[31] = 1;
     show(first_assignment(&full, 0, 32, 0, 32));
+    let falling = falling_stairs();
+    show(first_assignment(&falling, 0, 32, 0, 32));
+    show(first_assignment(&falling, 16, 16, 0, 32));
 }
 
 fn groups() {

@@ -54,24 +54,24 @@ bytes : (n : ℕ) (w v : List ℕ) → n ≤ 32 → length w ≡ 32 → v ≡ ta
 bytes n w v h l q = let x = length-take n w in ap (λ (y : List ℕ). length y) q ∙ omega arith
 
 -- ---- the claims
-pub unique-cut : UniqueCut
-unique-cut rows bs n found found' w w' b c = best-unique b c
+pub uniqueCut : UniqueCut
+uniqueCut rows bs n found found' w w' b c = best-unique b c
 
-pub unique-filling : UniqueFilling
-unique-filling rows k n found found' w w' b c = best-unique b c
+pub uniqueFilling : UniqueFilling
+uniqueFilling rows k n found found' w w' b c = best-unique b c
 
-pub cut-passes : CutPasses
-cut-passes rows bs n found r w v h b f q p =
+pub cutPasses : CutPasses
+cutPasses rows bs n found r w v h b f q p =
     let c : Cuts rows bs 0 n v = subst (λ (x : List ℕ). Cuts rows bs 0 n x) (sym q) (b .best f .holds) in
     passing-holds p (subst (λ (m : ℕ). Cuts rows bs 0 m v) (sym (bytes n w v h (b .size) q)) c)
 
-pub cut-found : CutFound
-cut-found rows bs n found w v b l p = best-found v b (subst (λ (m : ℕ). Cuts rows bs 0 m v) l (p .passed refl))
+pub cutFound : CutFound
+cutFound rows bs n found w v b l p = best-found v b (subst (λ (m : ℕ). Cuts rows bs 0 m v) l (p .passed refl))
 
-pub filling-passes : FillingPasses
-filling-passes rows k n found r w v h b f q p =
+pub fillingPasses : FillingPasses
+fillingPasses rows k n found r w v h b f q p =
     let c : Fills rows k n v = subst (λ (x : List ℕ). Fills rows k n x) (sym q) (b .best f .holds) in
     passing-holds p (subst (λ (m : ℕ). Fills rows k m v) (sym (bytes n w v h (b .size) q)) c)
 
-pub filling-found : FillingFound
-filling-found rows k n found w v b l p = best-found v b (subst (λ (m : ℕ). Fills rows k m v) l (p .passed refl))
+pub fillingFound : FillingFound
+fillingFound rows k n found w v b l p = best-found v b (subst (λ (m : ℕ). Fills rows k m v) l (p .passed refl))

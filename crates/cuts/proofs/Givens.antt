@@ -1,23 +1,24 @@
 -- What is given at a place: joined, and the lesser of two. Assumes nothing.
-use mathlib.Core.Path.{_≡_, refl, sym, ap, _∙_, subst}
+use mathlib.Core.Path.{_≡_, refl, sym, ap, ap₂, _∙_, subst}
 use mathlib.Core.Logic.{_⊎_, inl, inr, ⊎-elim}
 use mathlib.Core.Bool.{Bool, true, false}
 use mathlib.Core.List.{List, [], _∷_, _++_}
 use Prim.Native.Nat.{ℕ, zero, suc, _+_, _-_, _≤_, _<_}
 use native.Mathlib.Omega.{arith}
-use lib.ListN.{length, getD, replicate, length-replicate, getD-replicate}
-use lib.Seq.{slice, length-slice, ext-getD}
+use lib.ListN.{length, getD, set, replicate, length-set, length-replicate, getD-replicate}
+use lib.Seq.{slice, slice-cons, slice-empty, length-slice, getD-set-same, getD-set-other, ext-getD}
 use Rattle.assign.specs.Order.{earlier, choose, First, Joins}
-use Rattle.assign.specs.Rows.{between, may}
+use Rattle.assign.specs.Rows.{between, may, cnt}
 use Rattle.assign.specs.Assignment.{takes, Assigns, Answer}
-use Rattle.assign.proofs.Lemmas.{same?, below?, holds?, clash, not-so, between-in, between-from, between-to}
+use Rattle.assign.proofs.Lemmas.{same?, below?, holds?, clash, not-so, between-in, between-from, between-to, hit, miss}
 use Rattle.assign.proofs.Laws.{earlier-irreflexive, first-same, first-joins, none-joins-left, none-joins-right, first-union, first-union-left, first-union-right}
-use Rattle.assign.proofs.Pieces.{slice-at, takes-spare}
+use Rattle.assign.proofs.Pieces.{slice-at}
+use Rattle.assign.proofs.Groups.{takes-spare, takes-member}
 use Rattle.assign.proofs.Groups.{takes-inv}
 use Rattle.cuts.specs.declared.Block.{Block}
 use Rattle.cuts.specs.declared.Suffix.{Suffix}
 use Rattle.cuts.specs.Cut.{Takes}
-use Rattle.cuts.specs.Table.{Given, Spliced, Kept, without, alone, later, sooner}
+use Rattle.cuts.specs.Table.{Given, Spliced, Kept, without, alone, later, sooner, Single, fits, fails}
 use Rattle.cuts.proofs.Lists.{splice-joins}
 
 -- ---- none, and another name for the same lists
@@ -73,7 +74,7 @@ kept-union {P} {Q} {from} {to} {a} {b} p q (sooner ta tb e) = record {
 
 -- ---- a block with no members
 -- every assignment is 255 throughout
-spare-bytes : {rows : List ℕ} {first k from to : ℕ} {v : List ℕ} → k ≡ 0 → Assigns rows first k from to v → (i : ℕ) → i < length v → getD v i 0 ≡ 255
+pub spare-bytes : {rows : List ℕ} {first k from to : ℕ} {v : List ℕ} → k ≡ 0 → Assigns rows first k from to v → (i : ℕ) → i < length v → getD v i 0 ≡ 255
 spare-bytes {rows} {first} {k} {from} {to} {v} z a i l = ⊎-elim
     (λ (q : getD v i 0 ≡ 255). q)
     (λ (q : (between first (first + k) (getD v i 0) ≡ true) × (may rows (getD v i 0) (from + i) ≡ true)).
@@ -94,6 +95,37 @@ spare-first {rows} {first} {k} {from} {to} w z f t long all =
           let same : v ≡ slice from to w = ext-getD 0 v (slice from to w) (size ∙ sym n) (λ i l. spare-bytes z a i l ∙ sym (at i (omega arith))) in
           ap (λ (x : List ℕ). earlier x (slice from to w)) same ∙ earlier-irreflexive (slice from to w);
     }
+
+-- ---- a block with one member, on one element
+one-member : {rows : List ℕ} {first k from to : ℕ} (v : List ℕ) → k ≡ 1 → to ≡ from + 1 → first < 32 → Assigns rows first k from to v
+    → (v ≡ first ∷ []) × (may rows first from ≡ true)
+unfolding cnt
+one-member [] o e l a = let n = a .size in absurd (omega arith)
+one-member {rows} {first} {k} {from} {to} (x ∷ []) o e l a =
+    let c = a .once first (omega arith) (omega arith) in
+    let q : x ≡ first = ⊎-elim (λ (q : x ≡ first). q) (λ (q : x ≡ first → ⊥). let z = miss x first q in absurd (omega arith)) (same? x first) in
+    let t : takes rows first k from first ≡ true = subst (λ (j : ℕ). takes rows first k j first ≡ true) (let z : from + 0 ≡ from = omega arith in z)
+    (subst (λ (y : ℕ). takes rows first k (from + 0) y ≡ true) q (a .right 0 (omega arith))) in (
+      ap (λ (y : ℕ). y ∷ []) q,
+      ⊎-elim (λ (z : first ≡ 255). absurd (omega arith)) (λ (z : (between first (first + k) first ≡ true) × (may rows first from ≡ true)). z .1) (takes-inv rows first k from first t),
+    )
+one-member (x ∷ y ∷ v) o e l a = let n = a .size in absurd (omega arith)
+
+one-first : {rows : List ℕ} {first k from to : ℕ} → k ≡ 1 → to ≡ from + 1 → first < 32 → may rows first from ≡ true → First (Assigns rows first k from to) (first ∷ [])
+unfolding cnt
+one-first {rows} {first} {k} {from} {to} o e l m = record {
+  holds = record {
+    size = omega arith;
+    right = at;
+    once = λ v f t. let q : first ≡ v = omega arith in let z = hit first v q in omega arith;
+  };
+  least = λ v a. ap (λ (x : List ℕ). earlier x (first ∷ [])) (one-member v o e l a .0) ∙ earlier-irreflexive (first ∷ []);
+}
+  where
+    at : (i : ℕ) → i < length (first ∷ []) → takes rows first k (from + i) (getD (first ∷ []) i 0) ≡ true
+    at zero h = takes-member rows first k (from + 0) first (between-in first (first + k) first (omega arith) (omega arith))
+        (subst (λ (j : ℕ). may rows first j ≡ true) (let z : from ≡ from + 0 = omega arith in z) m)
+    at (suc i) h = absurd (omega arith)
 
 -- ---- a piece before a list
 module _ {rows : List ℕ} {b : Block} {Q : List ℕ → Type 0} {from to n : ℕ} {rest : Suffix}
@@ -139,3 +171,21 @@ module _ {rows : List ℕ} {b : Block} {Q : List ℕ → Type 0} {from to n : �
       (joined-first h (g .size) (first-takes (spare-first (rest .w) z f (omega arith) (g .size) (λ i l k.
       g .outside i (omega arith) (not-so (between to n i) (λ y. let x = between-from to n i y in omega arith)))))
       (record { size = g .size; inside = λ i l k. refl; before = λ i l. refl; after = λ i l. refl }))
+
+  -- one member on one element
+  pub joined-single : {r : Suffix} → b .k ≡ 1 → to ≡ from + 1 → b .first < 32 → rest .there ≡ true → Single rows (b .first) from rest r → Given (Joins (Takes rows b from to) Q) from n r
+  joined-single o e l h (fits m) =
+      let w = set (rest .w) from (b .first) in
+      let size = g .size in
+      let long : length w ≡ 32 = length-set (rest .w) from (b .first) ∙ size in
+      let piece : slice from to w ≡ b .first ∷ [] = slice-cons from to w 0 (omega arith) (omega arith)
+      ∙ ap₂ (λ (x : ℕ) (y : List ℕ). x ∷ y) (getD-set-same (rest .w) from (b .first) 0 (omega arith))
+      (ap (λ (j : ℕ). slice (suc from) j w) (let z : to ≡ suc from = omega arith in z) ∙ slice-empty (suc from) w) in
+      joined-first h long (subst (λ (x : List ℕ). First (Takes rows b from to) x) (sym piece) (first-takes (one-first o e l m)))
+      (record {
+        size = long;
+        inside = λ i x y. refl;
+        before = λ i x. getD-set-other (rest .w) from i (b .first) 0 (λ q. omega arith);
+        after = λ i x. getD-set-other (rest .w) from i (b .first) 0 (λ q. omega arith);
+      })
+  joined-single o e l h (fails m) = given-none refl refl (none-joins-left (λ v x. clash (one-member v o e l (x .assigned) .1) m))

@@ -1,9 +1,7 @@
 pub mod Lists
 pub mod Givens
-pub mod Tables
 pub mod Laws
-pub mod Seen
-pub mod Reaches
+pub mod Tables
 pub mod Fillings
 pub mod Claims
 pub mod Unique

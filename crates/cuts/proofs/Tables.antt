@@ -1,21 +1,25 @@
 -- The table, one block more in front at a time. Assumes nothing.
-use mathlib.Core.Path.{_≡_, refl, sym, ap, _∙_, subst}
+use mathlib.Core.Path.{_≡_, refl, sym, ap, ap₂, _∙_, subst}
 use mathlib.Core.Logic.{_⊎_, inl, inr, ⊎-elim}
 use mathlib.Core.Bool.{Bool, true, false}
 use mathlib.Core.List.{List, [], _∷_, _++_}
-use Prim.Native.Nat.{ℕ, zero, suc, _+_, _-_, _≤_, _<_, min}
+use Prim.Native.Nat.{ℕ, zero, suc, _+_, _-_, _≤_, _<_, min, suc-le-suc}
 use native.Mathlib.Numerals.{add-one}
 use native.Mathlib.Omega.{arith}
 use lib.ListN.{length, getD, set, take, drop, replicate, drop-of-length-le, length-replicate, getD-replicate, length-set, length-take}
 use lib.Seq.{slice, slice-empty, drop-cons, getD-take, getD-set-same, getD-set-other}
 use Rattle.assign.specs.Order.{earlier, First, Joins}
 use Rattle.assign.specs.Rows.{between}
-use Rattle.assign.proofs.Lemmas.{same?, clash, not-so, between-to}
+use Rattle.assign.specs.Assignment.{Assigns}
+use Rattle.assign.proofs.Laws.{none-joins-right}
+use Rattle.assign.proofs.Groups.{takes-spare}
+use Rattle.assign.proofs.Lemmas.{same?, holds?, clash, not-so, between-to}
 use Rattle.cuts.specs.declared.Block.{Block}
 use Rattle.cuts.specs.declared.Suffix.{Suffix}
 use Rattle.cuts.specs.Cut.{Takes, CutAt, Cuts, Inside, Best, Cutting}
-use Rattle.cuts.specs.Table.{Given, nothing, beyond, Tabled, Kept, CutBefore}
-use Rattle.cuts.proofs.Givens.{given-none, given-same, kept-union}
+use Rattle.cuts.specs.Table.{Given, nothing, beyond, Tabled, Kept, alone, CutBefore}
+use Rattle.cuts.proofs.Givens.{given-none, given-same, kept-union, joined-spare, spare-bytes}
+use Rattle.cuts.proofs.Laws.{cuts-order}
 
 -- ---- no blocks
 abbrev pub empty : Suffix
@@ -130,6 +134,187 @@ walk-step {rows} {b} {bs} {n} {from} {u} {s} h f g new =
 
 pub walk-end : {rows : List ℕ} {b : Block} {bs : List Block} {n from : ℕ} {u : List Suffix} → n < from → Walked rows b bs n from u → Tabled rows (b ∷ bs) n 0 u
 walk-end l g = record { size = g .size; at = λ p _ k. g .done p (omega arith) k }
+
+-- ---- a block whose pieces are all of one length
+module _ (rows : List ℕ) (b : Block) (bs : List Block) (from n : ℕ) (even : b .min ≡ b .max) where
+  pub even-end : (to : ℕ) {s : Suffix} → to ≡ from + (b .k + b .min) → to ≤ n → Given (Joins (Takes rows b from to) (onward rows bs n to)) from n s
+      → Given (Cuts rows (b ∷ bs) from n) from n s
+  even-end to q l g = place-end rows b bs from n (to + 1) (omega arith) (place-step rows b bs from n to (omega arith) l (place-start rows b bs from n to (omega arith)) g (alone refl))
+
+  pub even-none : (to : ℕ) → to ≡ from + (b .k + b .min) → n < to → Given (Cuts rows (b ∷ bs) from n) from n nothing
+  even-none to q l = place-end rows b bs from n to (omega arith) (place-start rows b bs from n to (omega arith))
+
+-- ---- a block with no members that takes any number of elements from min on: the least number, or one spare element and then the same
+pub one : Block → Block
+one b = record { first = b .first; k = b .k; min = 1; max = 1 }
+
+-- a spare element before a cut from the next place
+abbrev pub Spared : List ℕ → Block → List Block → ℕ → ℕ → List ℕ → Type 0
+Spared rows b bs from n v = Joins (Takes rows (one b) from (from + 1)) (onward rows (b ∷ bs) n (from + 1)) v
+
+given-spared : (rows : List ℕ) (b : Block) (bs : List Block) (from n : ℕ) {s : Suffix} → b .k ≡ 0 → from ≤ n → n ≤ 32
+    → Given (Cuts rows (b ∷ bs) (from + 1) n) (from + 1) n s → Given (Spared rows b bs from n) from n s
+unfolding one
+given-spared rows b bs from n {s} z f end g = ⊎-elim
+    (λ (t : s .there ≡ true).
+    let o = cuts-order rows (b ∷ bs) (from + 1) n (slice (from + 1) n (s .w)) (g .best t .holds) in
+    joined-spare (omega arith) o end (omega arith) (omega arith) g z t)
+    (λ (t : s .there ≡ false). given-none t (g .blank t) (none-joins-right (g .none t)))
+    (holds? (s .there))
+
+-- the assignments of a block with no members, one element longer or shorter
+longer : {rows : List ℕ} {first k from to : ℕ} {v : List ℕ} → k ≡ 0 → from < to → Assigns rows first k (from + 1) to v → Assigns rows first k from to (255 ∷ v)
+longer {rows} {first} {k} {from} {to} {v} z l a =
+    let n = a .size in
+    record {
+      size = omega arith;
+      right = λ i h. takes-spare rows first k (from + i) (getD (255 ∷ v) i 0) (at i h);
+      once = λ m f t. absurd (omega arith);
+    }
+  where
+    at : (i : ℕ) → i < length (255 ∷ v) → getD (255 ∷ v) i 0 ≡ 255
+    at zero h = refl
+    at (suc i) h = spare-bytes z a i (omega arith)
+
+shorter : {rows : List ℕ} {first k from to : ℕ} {x : ℕ} {v : List ℕ} → k ≡ 0 → Assigns rows first k from to (x ∷ v) → (x ≡ 255) × Assigns rows first k (from + 1) to v
+shorter {rows} {first} {k} {from} {to} {x} {v} z a =
+    let n = a .size in (
+      spare-bytes z a 0 (omega arith),
+      record {
+        size = omega arith;
+        right = λ i h. takes-spare rows first k ((from + 1) + i) (getD v i 0) (spare-bytes z a (suc i) (suc-le-suc h));
+        once = λ m f t. absurd (omega arith);
+      },
+    )
+
+one-spare : {rows : List ℕ} {first k from : ℕ} (v : List ℕ) → k ≡ 0 → Assigns rows first k from (from + 1) v → v ≡ 255 ∷ []
+one-spare [] z a = let n = a .size in absurd (omega arith)
+one-spare (x ∷ []) z a = ap (λ (y : ℕ). y ∷ []) (spare-bytes z a 0 (omega arith))
+one-spare (x ∷ y ∷ v) z a = let n = a .size in absurd (omega arith)
+
+spare-one : {rows : List ℕ} {first k from : ℕ} → k ≡ 0 → Assigns rows first k from (from + 1) (255 ∷ [])
+spare-one z = longer z (omega arith) (record { size = omega arith; right = λ i l. absurd (omega arith); once = λ m f t. absurd (omega arith) })
+
+module _ (rows : List ℕ) (b : Block) (bs : List Block) (from n : ℕ) (z : b .k ≡ 0) (wide : n ≤ b .max) where
+  -- a cut of its least length
+  abbrev pub Least : List ℕ → Type 0
+  Least v = Joins (Takes rows b from (from + b .min)) (onward rows bs n (from + b .min)) v
+
+  spared-cut : (v : List ℕ) → Spared rows b bs from n v → Cuts rows (b ∷ bs) from n v
+  unfolding Cuts one
+  spared-cut v j =
+      let c = j .onRight in
+      let p = c .parts in
+      let after = c .after in
+      let inside = c .inside in
+      let t = p .onLeft in
+      let enough = t .enough in
+      let head = j .onLeft .assigned in
+      let size = head .size in
+      record {
+        mid = c .mid;
+        after = omega arith;
+        inside = c .inside;
+        parts = record {
+          left = 255 ∷ p .left;
+          right = p .right;
+          whole = j .whole ∙ ap₂ (λ (x y : List ℕ). x ++ y) (one-spare (j .left) z head) (p .whole);
+          onLeft = record { assigned = longer z (omega arith) (t .assigned); enough = omega arith; few = omega arith };
+          onRight = p .onRight;
+        };
+      }
+
+  least-cut : from + b .min ≤ n → (v : List ℕ) → Least v → Cuts rows (b ∷ bs) from n v
+  unfolding Cuts
+  least-cut l v j = record { mid = from + b .min; after = omega arith; inside = l; parts = j }
+
+  -- the first piece, longer than the least
+  cut-spared : (mid : ℕ) (p r v : List ℕ) → from + b .min < mid → mid ≤ n → v ≡ p ++ r → Takes rows b from mid p → Cuts rows bs mid n r → Spared rows b bs from n v
+  unfolding Cuts one
+  cut-spared mid [] r v l h q t c = let s = t .assigned .size in absurd (omega arith)
+  cut-spared mid (x ∷ xs) r v l h q t c =
+      let s = shorter z (t .assigned) in
+      record {
+        left = 255 ∷ [];
+        right = xs ++ r;
+        whole = q ∙ ap (λ (y : ℕ). y ∷ (xs ++ r)) (s .0);
+        onLeft = record { assigned = spare-one z; enough = omega arith; few = omega arith };
+        onRight = record {
+          mid = mid;
+          after = omega arith;
+          inside = h;
+          parts = record { left = xs; right = r; whole = refl; onLeft = record { assigned = s .1; enough = omega arith; few = omega arith }; onRight = c };
+        };
+      }
+
+  cut-open : (v : List ℕ) → Cuts rows (b ∷ bs) from n v → ((from + b .min ≤ n) × Least v) ⊎ Spared rows b bs from n v
+  unfolding Cuts
+  cut-open v c =
+      let p = c .parts in
+      let m = c .mid in
+      let enough = p .onLeft .enough in
+      let after = c .after in
+      let inside = c .inside in
+      ⊎-elim
+      (λ (q : m ≡ from + b .min). inl (omega arith, subst (λ (x : ℕ). Joins (Takes rows b from x) (onward rows bs n x) v) q p))
+      (λ (q : m ≡ from + b .min → ⊥). inr (cut-spared m (p .left) (p .right) v (omega arith) inside (p .whole) (p .onLeft) (p .onRight)))
+      (same? m (from + b .min))
+
+  -- what is given from the next place on, one element longer
+  spared-given : (later : ℕ) {s : Suffix} → later ≡ from + 1 → from ≤ n → n ≤ 32 → Given (Cuts rows (b ∷ bs) later n) later n s → Given (Spared rows b bs from n) from n s
+  spared-given later {s} q f end g = given-spared rows b bs from n z f end (subst (λ (x : ℕ). Given (Cuts rows (b ∷ bs) x n) x n s) q g)
+
+  least-given : (to : ℕ) {s : Suffix} → to ≡ from + b .min → to ≤ n → n ≤ 32 → Given (Cuts rows bs to n) to n s → Given Least from n s
+  least-given to {s} q l end g =
+      let h : Given (Cuts rows bs (from + b .min) n) (from + b .min) n s = subst (λ (x : ℕ). Given (Cuts rows bs x n) x n s) q g in
+      ⊎-elim
+      (λ (t : s .there ≡ true). joined-spare (omega arith) (omega arith) end (omega arith) (omega arith) h z t)
+      (λ (t : s .there ≡ false). given-none t (h .blank t) (none-joins-right (h .none t)))
+      (holds? (s .there))
+
+  pub open-step : (to later : ℕ) {s next r : Suffix} → to ≡ from + b .min → later ≡ from + 1 → from ≤ n → n ≤ 32 → to ≤ n → Given (Cuts rows (b ∷ bs) later n) later n s
+      → Given (Cuts rows bs to n) to n next → Kept from n s next r → Given (Cuts rows (b ∷ bs) from n) from n r
+  open-step to later {s} {next} {r} q e f end l g h k =
+      let m : from + b .min ≤ n = omega arith in
+      given-same
+      (λ v. ⊎-elim (spared-cut v) (least-cut m v))
+      (λ v c. ⊎-elim (λ x. inr (x .1)) (λ x. inl x) (cut-open v c))
+      (kept-union (spared-given later e f end g) (least-given to q l end h) k)
+
+  pub open-short : (to later : ℕ) {s : Suffix} → to ≡ from + b .min → later ≡ from + 1 → from ≤ n → n ≤ 32 → n < to → Given (Cuts rows (b ∷ bs) later n) later n s
+      → Given (Cuts rows (b ∷ bs) from n) from n s
+  open-short to later {s} q e f end l g = given-same spared-cut
+      (λ v c. ⊎-elim (λ (x : (from + b .min ≤ n) × Least v). let y = x .0 in absurd (omega arith)) (λ x. x) (cut-open v c))
+      (spared-given later e f end g)
+
+-- all places from `from` on, and what the last of them has
+pub record Opened (rows : List ℕ) (b : Block) (bs : List Block) (n from : ℕ) (best : Suffix) (u : List Suffix) : Type 0 where
+  pub size : length u ≡ 33
+  pub last : Given (Cuts rows (b ∷ bs) from n) from n best
+  pub at : (p : ℕ) → from ≤ p → p ≤ n → Given (Cuts rows (b ∷ bs) p n) p n (getD u p beyond)
+
+pub opened-start : (rows : List ℕ) (b : Block) (bs : List Block) (n : ℕ) (t : List Suffix) → Tabled rows bs n 0 t → Opened rows b bs n (n + 1) nothing t
+opened-start rows b bs n t g = record {
+  size = g .size;
+  last = given-none refl refl (λ v c. let o = cuts-order rows (b ∷ bs) (n + 1) n v c in omega arith);
+  at = λ p l k. absurd (omega arith);
+}
+
+pub opened-step : {rows : List ℕ} {b : Block} {bs : List Block} {n : ℕ} (from next : ℕ) {best s : Suffix} {u : List Suffix} → next ≡ from + 1 → from ≤ n → n ≤ 32
+    → Opened rows b bs n next best u → Given (Cuts rows (b ∷ bs) from n) from n s → Opened rows b bs n from s (set u from s)
+opened-step {rows} {b} {bs} {n} from next {best} {s} {u} e f end g new =
+    let long = g .size in
+    record {
+      size = length-set u from s ∙ long;
+      last = new;
+      at = λ p l k. ⊎-elim
+          (λ (q : p ≡ from).
+          subst (λ (x : ℕ). Given (Cuts rows (b ∷ bs) x n) x n (getD (set u from s) x beyond)) (sym q)
+          (subst (λ (x : Suffix). Given (Cuts rows (b ∷ bs) from n) from n x) (sym (getD-set-same u from s beyond (omega arith))) new))
+          (λ (q : p ≡ from → ⊥).
+          subst (λ (x : Suffix). Given (Cuts rows (b ∷ bs) p n) p n x) (sym (getD-set-other u from p s beyond q)) (g .at p (omega arith) k))
+          (same? p from);
+    }
 
 -- ---- all blocks, from the last to the first
 pub inside-at : (d : Block) (bs : List Block) (j : ℕ) → j < length bs → Inside bs → getD bs j d .first + getD bs j d .k ≤ 32

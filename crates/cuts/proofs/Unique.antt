@@ -7,15 +7,11 @@ use borrow.Fn.Kinds.{Dens, resT, endedOf}
 use contract.Lifetimes.{Lfts}
 use denote.Triple.Clauses.{AtExit}
 use Rattle.assign.specs.declared.Found.{Found}
-use Rattle.cuts.proofs.Claims.{best-unique, passing-unique}
+use Rattle.cuts.proofs.Claims.{best-unique}
 use Rattle.cuts.proofs.first_cut.Reads as cut-reads
 use Rattle.cuts.proofs.first_cut.Kinds as cut-kinds
-use Rattle.cuts.proofs.cut_passes.Reads as passes-reads
-use Rattle.cuts.proofs.cut_passes.Kinds as passes-kinds
 use Rattle.cuts.proofs.first_filling.Reads as filling-reads
 use Rattle.cuts.proofs.first_filling.Kinds as filling-kinds
-use Rattle.cuts.proofs.filling_passes.Reads as filled-reads
-use Rattle.cuts.proofs.filling_passes.Kinds as filled-kinds
 
 abbrev made : Bool → List ℕ → Found
 made found w = record { found = found; w = w }
@@ -24,14 +20,6 @@ pub first-cut-unique : (κs : Lfts 1) (a : Dens κs cut-kinds.ps) (r r' : resT c
     → cut-reads.Post κs a r s → cut-reads.Post κs a r' s' → r ≡ r'
 first-cut-unique κs a r r' s s' p q = let u = best-unique p q in ap₂ made (u .0) (u .1)
 
-pub cut-passes-unique : (κs : Lfts 2) (a : Dens κs passes-kinds.ps) (r r' : resT passes-kinds.r κs .Denot) (s s' : AtExit (endedOf 2 passes-kinds.ps passes-kinds.r) κs)
-    → passes-reads.Post κs a r s → passes-reads.Post κs a r' s' → r ≡ r'
-cut-passes-unique κs a r r' s s' p q = passing-unique p q
-
 pub first-filling-unique : (κs : Lfts 1) (a : Dens κs filling-kinds.ps) (r r' : resT filling-kinds.r κs .Denot) (s s' : AtExit (endedOf 1 filling-kinds.ps filling-kinds.r) κs)
     → filling-reads.Post κs a r s → filling-reads.Post κs a r' s' → r ≡ r'
 first-filling-unique κs a r r' s s' p q = let u = best-unique p q in ap₂ made (u .0) (u .1)
-
-pub filling-passes-unique : (κs : Lfts 2) (a : Dens κs filled-kinds.ps) (r r' : resT filled-kinds.r κs .Denot) (s s' : AtExit (endedOf 2 filled-kinds.ps filled-kinds.r) κs)
-    → filled-reads.Post κs a r s → filled-reads.Post κs a r' s' → r ≡ r'
-filling-passes-unique κs a r r' s s' p q = passing-unique p q

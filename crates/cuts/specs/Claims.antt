@@ -1,5 +1,5 @@
 -- What this crate promises, as statements. `Cutting`, `Filling` and `Passing` are the contracts of the public functions; proofs/Claims.antt proves
--- each under its name in lower case, words parted by hyphens.
+-- each under its name with a small first letter.
 -- UniqueCut     <-> the promise of `first_cut` allows one answer, every byte included
 -- UniqueFilling <-> the same of `first_filling`
 -- CutPasses     <-> the cut that `first_cut` finds passes `cut_passes`

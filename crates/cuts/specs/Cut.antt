@@ -1,9 +1,11 @@
 -- Runs of elements cut into consecutive pieces, one for each block in order; and assignments in which every element has a member.
 -- A block takes a piece in which each of its k members, first .. first + k - 1, is assigned once and the spare elements number min to max.
 -- Takes rows b from to p <-> p is an assignment of the elements from .. to - 1 by the block b, with as many spare elements as b allows
+-- CutAt rows b rest from to w <-> w is a piece that the block b takes, up to some place, and after it a list of the kind `rest` from that place on
 -- Cuts rows bs from to w <-> w assigns the elements from .. to - 1, cut into consecutive pieces, one for each of bs in order
 -- Fills rows k n w <-> w gives each of the elements 0 .. n - 1 a member below k that may take it, and no member twice
 -- Inside bs <-> the members of each block are below 32
+-- Best P n found w <-> the first n bytes of w are the first list of P in byte order, where P has one; every other byte of w is 255
 -- Cutting rows bs n found w <-> what `first_cut` gives: the first cut in byte order, where there is one; every other byte of w is 255
 -- Filling rows k n found w <-> the same of `first_filling`
 -- Passing P r <-> r says whether P holds

@@ -4,16 +4,17 @@
 -- Tabled rows bs n from t  <-> from the place `from` on, the table t gives what the blocks bs take up to n
 -- Spliced a b from to r    <-> r is b with the bytes from .. to - 1 of a
 -- Kept from to a b r       <-> r is the one of a and b that is there, or comes first
+-- Single rows m from rest r <-> r is rest with the member m before it, at the place `from`, or nothing where m may not take that element
 -- CutBefore rows b rest from to stop w <-> w is a cut whose first piece, by b, ends before `stop`
 -- Assumes nothing: these are definitions.
 use mathlib.Core.Path.{_≡_}
 use mathlib.Core.Bool.{Bool, true, false}
 use mathlib.Core.List.{List, []}
 use Prim.Native.Nat.{ℕ, _≤_, _<_}
-use lib.ListN.{length, getD, replicate}
+use lib.ListN.{length, getD, set, replicate}
 use lib.Seq.{slice}
 use Rattle.assign.specs.Order.{First, Joins, earlier}
-use Rattle.assign.specs.Rows.{between}
+use Rattle.assign.specs.Rows.{between, may}
 use Rattle.cuts.specs.declared.Block.{Block}
 use Rattle.cuts.specs.declared.Suffix.{Suffix}
 use Rattle.cuts.specs.Cut.{Takes, Cuts}
@@ -47,6 +48,10 @@ pub data Kept (from to : ℕ) (a b : Suffix) : Suffix → Type 0 where
   alone : a .there ≡ false → Kept from to a b b
   later : a .there ≡ true → b .there ≡ true → earlier (slice from to (b .w)) (slice from to (a .w)) ≡ false → Kept from to a b a
   sooner : a .there ≡ true → b .there ≡ true → earlier (slice from to (b .w)) (slice from to (a .w)) ≡ true → Kept from to a b b
+
+pub data Single (rows : List ℕ) (m from : ℕ) (rest : Suffix) : Suffix → Type 0 where
+  fits : may rows m from ≡ true → Single rows m from rest (record { there = true; w = set (rest .w) from m })
+  fails : may rows m from ≡ false → Single rows m from rest nothing
 
 pub record CutBefore (rows : List ℕ) (b : Block) (rest : ℕ → List ℕ → Type 0) (from to stop : ℕ) (w : List ℕ) : Type 0 where
   pub mid : ℕ

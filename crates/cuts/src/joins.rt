@@ -1,15 +1,18 @@
 // Lists at their places in 32 bytes, with 255 around: two joined, and the lesser of two.
 ghost use mathlib.Core.Path.{_≡_};
+ghost use mathlib.Core.Bool.{true};
 ghost use mathlib.Core.List.{List};
-ghost use Prim.Native.Nat.{ℕ, _+_, _-_, _≤_};
+ghost use Prim.Native.Nat.{ℕ, _+_, _-_, _≤_, _<_};
 ghost use lib.Seq.{slice};
 ghost use Rattle.assign.specs.Order.{earlier, Joins};
 ghost use Rattle.cuts.specs.declared.Block.{Block as BlockOf};
 ghost use Rattle.cuts.specs.Cut.{Takes, Cuts};
-ghost use Rattle.cuts.specs.Table.{Given, Spliced, Kept};
+ghost use Rattle.cuts.specs.Table.{Given, Spliced, Kept, Single};
 use crate::Block;
+use crate::SPARE;
 use crate::Suffix;
 use assign::first_assignment;
+use assign::mask::has;
 
 // Whether a comes before b in byte order, by the places from .. to - 1.
 pub fn comes_before(a: [u8; 32], b: [u8; 32], from: usize, to: usize) -> bool
@@ -62,18 +65,28 @@ pub fn keep(a: Suffix, b: Suffix, from: usize, to: usize) -> Suffix
     a
 }
 
-// The first assignment of the elements from .. to - 1 by the block, before the list `rest`, which begins at `to`.
-pub fn joined(rows: &[u32; 32], b: Block, rest: Suffix, from: usize, to: usize) -> Suffix
-    requires { ⌜ (b .first + b .k ≤ 32) × (from ≤ to) × (to ≤ 32) × (b .k + b .min ≤ to - from) × (to - from ≤ b .k + b .max) ⌝ }
+// The member m, if it may take the element `from`, before the list `rest`, which begins after it.
+fn single(rows: &[u32; 32], m: u8, rest: Suffix, from: usize) -> Suffix
+    requires { ⌜ (m < 32) × (from < 32) ⌝ }
+    ensures { λ r. ⌜ Single (now (rows .entry)) m from rest r ⌝ }
+{
+    if !has(rows[m as usize], from as u8) {
+        let blank = [SPARE; 32];
+        return Suffix {
+            there: false,
+            w: blank,
+        };
+    }
+    let mut w = rest.w;
+    w[from] = m;
+    Suffix { there: true, w: w }
+}
+
+// The first assignment of the elements from .. to - 1 by the block, before the list `rest`, which is there and begins at `to`.
+fn searched(rows: &[u32; 32], b: Block, rest: Suffix, from: usize, to: usize) -> Suffix
+    requires { ⌜ (b .first + b .k ≤ 32) × (from ≤ to) × (to ≤ 32) × (b .k + b .min ≤ to - from) × (to - from ≤ b .k + b .max) × (rest .there ≡ true) ⌝ }
     ensures { λ r. ⌜ ((bs : List BlockOf) (n : ℕ) → to ≤ n → n ≤ 32 → Given (Cuts (now (rows .entry)) bs to n) to n rest → Given (Joins (Takes (now (rows .entry)) b from to) (Cuts (now (rows .entry)) bs to n)) from n r) ⌝ }
 {
-    if !rest.there {
-        return rest;
-    }
-    // a piece with no members is all 255, as the bytes before `to` are
-    if b.k == 0 {
-        return rest;
-    }
     let piece = first_assignment(rows, b.first, b.k, from as u8, to as u8);
     let left = piece.w;
     if !piece.found {
@@ -85,4 +98,24 @@ pub fn joined(rows: &[u32; 32], b: Block, rest: Suffix, from: usize, to: usize) 
     let right = rest.w;
     let w = splice(left, right, from, to);
     Suffix { there: true, w: w }
+}
+
+// The same for any list `rest`; nothing is searched for where that is not needed.
+pub fn joined(rows: &[u32; 32], b: Block, rest: Suffix, from: usize, to: usize) -> Suffix
+    requires { ⌜ (b .first + b .k ≤ 32) × (from ≤ to) × (to ≤ 32) × (b .k + b .min ≤ to - from) × (to - from ≤ b .k + b .max) ⌝ }
+    ensures { λ r. ⌜ ((bs : List BlockOf) (n : ℕ) → to ≤ n → n ≤ 32 → Given (Cuts (now (rows .entry)) bs to n) to n rest → Given (Joins (Takes (now (rows .entry)) b from to) (Cuts (now (rows .entry)) bs to n)) from n r) ⌝ }
+{
+    if !rest.there {
+        return rest;
+    }
+    // a piece with no members is all 255, as the bytes before `to` are
+    if b.k == 0 {
+        return rest;
+    }
+    if b.k == 1 {
+        if to == from + 1 {
+            return single(rows, b.first, rest, from);
+        }
+    }
+    searched(rows, b, rest, from, to)
 }

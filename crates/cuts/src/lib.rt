@@ -1,16 +1,13 @@
 // A run of elements cut into consecutive pieces, one for each block; and the same for a run in which every element has a member.
 ghost use Prim.Native.Nat.{_≤_};
-ghost use lib.ListN.{take, length};
-ghost use Rattle.cuts.specs.Cut.{Inside, Cutting, Cuts, Filling, Fills, Passing};
+ghost use lib.ListN.{take};
+ghost use Rattle.cuts.specs.Cut.{Inside, Cutting, Filling};
 use assign::Found;
 use assign::first_assignment;
-use assign::mask::with;
 use joins::splice;
-use reach::fresh;
 
 mod joins; // lists at their places in 32 bytes: joined, and the lesser of two
 mod pad; // rows with elements that every member may take
-mod reach; // the places of an offered list that the blocks so far reach
 mod table; // for each place what the blocks so far take from there on
 
 // The byte of an element that no member has.
@@ -52,22 +49,6 @@ pub fn first_cut(rows: &[u32; 32], blocks: [Block; 32], count: usize, n: u8) -> 
     }
 }
 
-// Whether w is a cut by the first `count` blocks of as many elements as it has bytes.
-pub fn cut_passes(rows: &[u32; 32], blocks: [Block; 32], count: usize, w: &[u8]) -> bool
-    requires { ⌜ (count ≤ 32) × (length (now w) ≤ 32) × Inside (take count blocks) ⌝ }
-    ensures { λ r. ⌜ Passing (Cuts (now (rows .entry)) (take count blocks) 0 (length (now (w .entry))) (now (w .entry))) r ⌝ }
-{
-    let mut reach = reach::start(w);
-    let mut j = 0;
-    while j < count {
-        let b = blocks[j];
-        let next = reach::extend(rows, b, reach, w);
-        reach = next;
-        j += 1;
-    }
-    reach[w.len()]
-}
-
 // The first assignment of the elements 0 .. n - 1 in which each has a member below k, and no member stands twice. The elements n .. k - 1 are
 // added, which every member may take: the members that the others leave fill them.
 pub fn first_filling(rows: &[u32; 32], k: u8, n: u8) -> Found
@@ -89,28 +70,4 @@ pub fn first_filling(rows: &[u32; 32], k: u8, n: u8) -> Found
         found: a.found,
         w: w,
     }
-}
-
-// Whether w gives each of as many elements as it has bytes a member below k that may take it, and no member twice.
-pub fn filling_passes(rows: &[u32; 32], k: u8, w: &[u8]) -> bool
-    requires { ⌜ (k ≤ 32) × (length (now w) ≤ 32) ⌝ }
-    ensures { λ r. ⌜ Passing (Fills (now (rows .entry)) k (length (now (w .entry))) (now (w .entry))) r ⌝ }
-{
-    let b = Block {
-        first: 0,
-        k: k,
-        min: 0,
-        max: 0,
-    };
-    let mut members: u32 = 0;
-    let mut e = 0;
-    while e < w.len() {
-        let x = w[e];
-        if !fresh(rows, b, members, e as u8, x) {
-            return false;
-        }
-        members = with(members, x);
-        e += 1;
-    }
-    true
 }

@@ -51,8 +51,8 @@ fn at_place(rows: &[u32; 32], b: Block, t: [Suffix; 33], from: usize, n: usize) 
     best
 }
 
-// The table with the block b in front. Each place asks only for those after it, and itself as it was.
-pub fn prepend(rows: &[u32; 32], b: Block, t: [Suffix; 33], n: usize) -> [Suffix; 33]
+// The table with a block in front whose pieces are of any of its lengths. Each place asks only for those after it, and itself as it was.
+fn prepend_any(rows: &[u32; 32], b: Block, t: [Suffix; 33], n: usize) -> [Suffix; 33]
     requires { ⌜ (b .first + b .k ≤ 32) × (n ≤ 32) ⌝ }
     ensures { λ r. ⌜ ((bs : List BlockOf) → Tabled (now (rows .entry)) bs n 0 t → Tabled (now (rows .entry)) (b ∷ bs) n 0 r) ⌝ }
 {
@@ -64,4 +64,64 @@ pub fn prepend(rows: &[u32; 32], b: Block, t: [Suffix; 33], n: usize) -> [Suffix
         from += 1;
     }
     u
+}
+
+// The same for a block whose pieces are all of one length: each place has one end.
+fn prepend_even(rows: &[u32; 32], b: Block, t: [Suffix; 33], n: usize) -> [Suffix; 33]
+    requires { ⌜ (b .first + b .k ≤ 32) × (n ≤ 32) × (b .min ≡ b .max) ⌝ }
+    ensures { λ r. ⌜ ((bs : List BlockOf) → Tabled (now (rows .entry)) bs n 0 t → Tabled (now (rows .entry)) (b ∷ bs) n 0 r) ⌝ }
+{
+    let w = [SPARE; 32];
+    let size = b.k as usize + b.min as usize;
+    let mut u = t;
+    let mut from = 0;
+    while from <= n {
+        let mut s = Suffix { there: false, w: w };
+        let to = from + size;
+        if to <= n {
+            let rest = u[to];
+            s = joined(rows, b, rest, from, to);
+        }
+        u[from] = s;
+        from += 1;
+    }
+    u
+}
+
+// The same for a block with no members and any number of spare elements from min on: the least number, or one more than from the next place.
+fn prepend_open(b: Block, t: [Suffix; 33], n: usize) -> [Suffix; 33]
+    requires { ⌜ (b .k ≡ 0) × (n ≤ b .max) × (n ≤ 32) ⌝ }
+    ensures { λ r. ⌜ ((rows : List ℕ) (bs : List BlockOf) → Tabled rows bs n 0 t → Tabled rows (b ∷ bs) n 0 r) ⌝ }
+{
+    let w = [SPARE; 32];
+    let least = b.min as usize;
+    let mut best = Suffix { there: false, w: w };
+    let mut u = t;
+    let mut from = n + 1;
+    while 0 < from {
+        from -= 1;
+        let to = from + least;
+        if to <= n {
+            let rest = t[to];
+            best = keep(best, rest, from, n);
+        }
+        u[from] = best;
+    }
+    u
+}
+
+// The table with the block b in front.
+pub fn prepend(rows: &[u32; 32], b: Block, t: [Suffix; 33], n: usize) -> [Suffix; 33]
+    requires { ⌜ (b .first + b .k ≤ 32) × (n ≤ 32) ⌝ }
+    ensures { λ r. ⌜ ((bs : List BlockOf) → Tabled (now (rows .entry)) bs n 0 t → Tabled (now (rows .entry)) (b ∷ bs) n 0 r) ⌝ }
+{
+    if b.min == b.max {
+        return prepend_even(rows, b, t, n);
+    }
+    if b.k == 0 {
+        if n <= b.max as usize {
+            return prepend_open(b, t, n);
+        }
+    }
+    prepend_any(rows, b, t, n)
 }

@@ -17,13 +17,14 @@ use Rattle.assign.specs.Rows.{may, cnt}
 use Rattle.assign.specs.Assignment.{allOnce}
 use Rattle.assign.proofs.Lemmas.{holds?, and-left, and-right, both, one-of, or-left, or-right, same?, hit, miss}
 use Rattle.assign.proofs.Counting.{cnt-append}
+use Rattle.assign.proofs.Assignments.{once-test, test-once}
 use Rattle.cuts.specs.Cut.{Takes, CutAt, Cuts, Fills}
 use Rattle.template.specs.Element.{Elem}
 use Rattle.template.specs.Template.{Star, noStar, star, Group, grouped, Item, one, spares, permutation, Body, recordOf, setOf, superset, subset, Length, Template, template, membersOfGroup, membersOfItem, membersOfItems, membersOf}
 use Rattle.plan.specs.Members.{memberHits}
 use Rattle.plan.specs.Blocks.{block, blockOfGroup, blockOfItem, blocksOfItems, blocksOf}
 use Rattle.matcher.specs.Obeys.{spare, rightBytes, noneTwice, someCut, cuts, groupTakes, itemTakes, bodyMet, lengthMet, obeysBy}
-use Rattle.matcher.proofs.Pieces.{MayByte, MayAll, may-append, may-left, may-right, OneOf, Within, Once, once-says, once-test, length-once, cnt-outside, Piece, PieceOf, takes-piece, piece-takes, group-says, group-test, item-says, item-test}
+use Rattle.matcher.proofs.Pieces.{MayByte, MayAll, may-append, may-left, may-right, OneOf, Within, Once, length-once, cnt-outside, Piece, PieceOf, takes-piece, piece-takes, group-says, group-test, item-says, item-test}
 
 -- ---- the bytes are right where the rows say so
 
@@ -310,7 +311,7 @@ module _ {L : Type 0} (rows : List ℕ) (n : ℕ) (w : List ℕ) (short : n ≤ 
       let p = group-says 0 (grouped es st) w (omega arith) h in
       whole-cut rows 0 (length es) (Rattle.plan.specs.Blocks.minOf st) (Rattle.plan.specs.Blocks.maxOf st) n w p r l
   body-says (superset es) k r l b t h =
-      let o = once-says 0 (length es) w h in
+      let o = test-once 0 (length es) w h in
       let z = length-once 0 (length es) w (omega arith) b o in
       whole-cut rows 0 (length es) 0 255 n w (record { within = b; once = o; enough = omega arith; few = omega arith }) r l
   body-says (subset es) k r l b t h = subset-says rows (length es) n w r b l (twice-says (length es) w t) (eqb-true (cnt spare w) 0 h) (omega arith)

@@ -23,11 +23,11 @@ use Rattle.matcher.specs.Answer.{Given, given, written, matchRead, match
 use Rattle.matcher.specs.Claims.{Taken, Matched, MatchedWhere, UnmatchedWhere, RefusedWhere, JudgedWhere, JudgeAgrees, SomeIsMatched, OneAnswer}
 use Rattle.matcher.proofs.Searches.{Obeys, first-witness, none-witness, witness-none, obeys-size}
 
-few-members : (t : List ℕ) (s : Template Leaf) → readTemplate leafHead t ≡ got s [] → membersCount s ≤ 32
+pub few-members : (t : List ℕ) (s : Template Leaf) → readTemplate leafHead t ≡ got s [] → membersCount s ≤ 32
 unfolding membersCount
 few-members t (template a b) q = accepted-few leafHead t a b q
 
-reads : (t : List ℕ) (xs : List ℤ) (room : List ℕ) → Taken t xs → length xs ≤ length room → matchAnswer t xs room ≡ matchRead (readTemplate leafHead t) xs room
+pub reads : (t : List ℕ) (xs : List ℤ) (room : List ℕ) → Taken t xs → length xs ≤ length room → matchAnswer t xs room ≡ matchRead (readTemplate leafHead t) xs room
 unfolding matchAnswer
 reads t xs room k l = rw (le-ltb 4096 (length t) (k .0), le-ltb 32 (length xs) (k .1), le-ltb (length room) (length xs) l)
 
@@ -56,7 +56,7 @@ pub refusedWhere : RefusedWhere
 unfolding matchRead
 refusedWhere t xs room r k l q = reads t xs room k l ∙ ap (λ u. matchRead u xs room) q
 
-judges : (t : List ℕ) (xs : List ℤ) (w : List ℕ) → Taken t xs → length w ≡ length xs → judgeAnswer t xs w ≡ judgeRead (readTemplate leafHead t) xs w
+pub judges : (t : List ℕ) (xs : List ℤ) (w : List ℕ) → Taken t xs → length w ≡ length xs → judgeAnswer t xs w ≡ judgeRead (readTemplate leafHead t) xs w
 unfolding judgeAnswer
 judges t xs w k l = rw (le-ltb 4096 (length t) (k .0), le-ltb 32 (length xs) (k .1), eq-eqb (length w) (length xs) l)
 

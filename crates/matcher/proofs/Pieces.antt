@@ -15,7 +15,7 @@ use lib.ListN.{length, getD}
 use Rattle.assign.specs.Rows.{may, between, cnt}
 use Rattle.assign.specs.Assignment.{takes, allRight, allOnce, assigns}
 use Rattle.assign.proofs.Lemmas.{and-left, and-right, both, one-of, or-left, or-right, between-in, between-from, between-to, hit, miss, same?}
-use Rattle.assign.proofs.Tests.{assigns-test, test-assigns}
+use Rattle.assign.proofs.Assignments.{assigns-test, test-assigns, once-test, test-once}
 use Rattle.cuts.specs.Cut.{Takes}
 use Rattle.template.specs.Template.{Star, noStar, star, Group, grouped, Item, one, spares, permutation}
 use Rattle.plan.specs.Blocks.{minOf, maxOf, block, blockOfGroup, blockOfItem}
@@ -75,20 +75,6 @@ module _ (m k : ℕ) where
   unfolding withinBlock Within
   within-test [] h = refl
   within-test (b ∷ p) h = both (eqb b spare || between m (m + k) b) (withinBlock m k p) (byte-test b (h .0)) (within-test p (h .1))
-
-pub once-says : (m k : ℕ) (p : List ℕ) → allOnce m k p ≡ true → Once m k p
-unfolding allOnce
-once-says m zero p h v a b = absurd (omega arith)
-once-says m (suc k) p h v a b =
-    ⊎-elim
-    (λ (e : v ≡ m + k). rw e (eqb-true (cnt (m + k) p) 1 (and-left (eqb (cnt (m + k) p) 1) (allOnce m k p) h)))
-    (λ (n : v ≡ m + k → ⊥). once-says m k p (and-right (eqb (cnt (m + k) p) 1) (allOnce m k p) h) v a (omega arith))
-    (same? v (m + k))
-
-pub once-test : (m k : ℕ) (p : List ℕ) → Once m k p → allOnce m k p ≡ true
-unfolding allOnce
-once-test m zero p h = refl
-once-test m (suc k) p h = both (eqb (cnt (m + k) p) 1) (allOnce m k p) (eq-eqb (cnt (m + k) p) 1 (h (m + k) (omega arith) (omega arith))) (once-test m k p (λ v a b. h v a (omega arith)))
 
 -- ---- a right byte is one of the block, and may take its element
 
@@ -213,7 +199,7 @@ module _ (rows : List ℕ) (m k min max from to : ℕ) (p : List ℕ) where
       let s = t .assigned .size in
       let e = t .enough in
       let f = t .few in
-      (record { within = r .0; once = once-says m k p (and-right (allRight rows m k from p) (allOnce m k p) a); enough = omega arith; few = omega arith }, r .1, omega arith)
+      (record { within = r .0; once = test-once m k p (and-right (allRight rows m k from p) (allOnce m k p) a); enough = omega arith; few = omega arith }, r .1, omega arith)
 
   pub piece-takes : Piece m k min max p → MayAll rows from p → from + length p ≡ to → Takes rows (block m k min max) from to p
   unfolding assigns
@@ -277,7 +263,7 @@ module _ {L : Type 0} (m : ℕ) where
       let k = length es in
       let a = within-says m k p (and-left (withinBlock m k p) (allOnce m k p && starMet st (cnt spare p)) h) in
       let r = and-right (withinBlock m k p) (allOnce m k p && starMet st (cnt spare p)) h in
-      let b = once-says m k p (and-left (allOnce m k p) (starMet st (cnt spare p)) r) in
+      let b = test-once m k p (and-left (allOnce m k p) (starMet st (cnt spare p)) r) in
       star-says m k l p a b st (and-right (allOnce m k p) (starMet st (cnt spare p)) r)
 
   pub group-test : (g : Group L) (p : List ℕ) → m + blockOfGroup m g .k ≤ 255 → PieceOf (blockOfGroup m g) p → groupTakes m g p ≡ true

@@ -7,10 +7,10 @@ ghost use lib.ListN.{length};
 ghost use Rattle.matcher.specs.Answer.{given, matchAnswer, judgeAnswer};
 ghost use Rattle.matcher.specs.Contract.{Ready, FirstBy, PassedBy, Copied};
 use assign::Found;
-use cuts::cut_passes;
-use cuts::filling_passes;
 use cuts::first_cut;
 use cuts::first_filling;
+use passes::cut_passes;
+use passes::filling_passes;
 use plan::Plan;
 use plan::plan_of;
 use plan::rows_of;
@@ -125,11 +125,11 @@ pub fn judge(template: &[u8], list: &[i32], witness: &[u8]) -> u8
     if witness.len() != list.len() {
         return OTHER_LENGTH;
     }
-    let p = plan_of(template);
-    if p.number != 0 {
-        return p.number;
+    let q = plan_of(template);
+    if q.number != 0 {
+        return q.number;
     }
-    if witness_passes(template, p, list, witness) {
+    if witness_passes(template, q, list, witness) {
         return MATCHED;
     }
     NO_MATCH

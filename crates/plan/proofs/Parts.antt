@@ -4,7 +4,7 @@ use mathlib.Core.Bool.{Bool, true, false, cond, _&&_, _||_}
 use mathlib.Core.List.{List, [], _∷_}
 use Prim.Native.Nat.{ℕ, zero, suc, _+_, _-_, _≤_, _<_}
 use native.Mathlib.Omega.{arith}
-use borrow.Author.Tests.{ltb-true, ltb-false, eqb-true, eqb-false}
+use borrow.Author.Tests.{ltb-false, eqb-true, eqb-false, ne-eqb}
 use lib.Dec.{ltb, eqb}
 use lib.ListN.{length, getD, drop, length-drop}
 use lib.Seq.{getD-drop, drop-drop}
@@ -253,24 +253,33 @@ module _ (kind n : ℕ) (s : List ℕ) (b : Body Leaf) (rest : List ℕ) (q : co
     pub reads : members leafHead stars n 0 noStar s ≡ got what rest
     pub same : b ≡ groupBody kind what
 
+  turned : false ≡ true → ⊥
+  turned e = let z : _≡_ {A = ℕ} 0 1 = cc in omega arith
+
+  in-set : eqb kind 0x11 ≡ true → (x : Group Leaf) → members leafHead true n 0 noStar s ≡ got x rest → b ≡ setOf x → GroupIn
+  in-set d x r e = record { stars = true; what = x; allowed = λ z. eqb-true kind 0x11 d; reads = r; same = e ∙ set-body kind x d }
+
+  in-superset : eqb kind 0x11 ≡ false → eqb kind 0x12 ≡ true → (x : Group Leaf) → members leafHead false n 0 noStar s ≡ got x rest → b ≡ superset (membersOfGroup x) → GroupIn
+  in-superset d f x r e = record { stars = false; what = x; allowed = λ z. absurd (turned z); reads = r; same = e ∙ superset-body kind x d f }
+
+  in-subset : eqb kind 0x11 ≡ false → eqb kind 0x12 ≡ false → (x : Group Leaf) → members leafHead false n 0 noStar s ≡ got x rest → b ≡ subset (membersOfGroup x) → GroupIn
+  in-subset d f x r e = record { stars = false; what = x; allowed = λ z. absurd (turned z); reads = r; same = e ∙ subset-body kind x d f }
+
   pub group-body-inv : (kind ≡ 0x10 → ⊥) → GroupIn
   unfolding contents
   group-body-inv k =
-      let no : eqb kind 0x10 ≡ false = borrow.Author.Tests.ne-eqb kind 0x10 k in
+      let other : eqb kind 0x10 ≡ false = ne-eqb kind 0x10 k in
       by-test (eqb kind 0x11)
-      (λ d. let r : mapRead setOf (members leafHead true n 0 noStar s) ≡ got b rest = rw (no, d) at q in
+      (λ d. let r : mapRead setOf (members leafHead true n 0 noStar s) ≡ got b rest = rw (other, d) at q in
       let v = map-inv setOf _ b rest r in
-      record { stars = true; what = v .0; allowed = λ z. eqb-true kind 0x11 d; reads = v .1; same = v .2 ∙ set-body kind (v .0) d })
+      in-set d (v .0) (v .1) (v .2))
       (λ d. by-test (eqb kind 0x12)
-      (λ f. let r : mapRead (λ g. superset (membersOfGroup g)) (members leafHead false n 0 noStar s) ≡ got b rest = rw (no, d, f) at q in
+      (λ f. let r : mapRead (λ g. superset (membersOfGroup g)) (members leafHead false n 0 noStar s) ≡ got b rest = rw (other, d, f) at q in
       let v = map-inv (λ g. superset (membersOfGroup g)) _ b rest r in
-      record { stars = false; what = v .0; allowed = λ z. absurd (turned z); reads = v .1; same = v .2 ∙ superset-body kind (v .0) d f })
-      (λ f. let r : mapRead (λ g. subset (membersOfGroup g)) (members leafHead false n 0 noStar s) ≡ got b rest = rw (no, d, f) at q in
+      in-superset d f (v .0) (v .1) (v .2))
+      (λ f. let r : mapRead (λ g. subset (membersOfGroup g)) (members leafHead false n 0 noStar s) ≡ got b rest = rw (other, d, f) at q in
       let v = map-inv (λ g. subset (membersOfGroup g)) _ b rest r in
-      record { stars = false; what = v .0; allowed = λ z. absurd (turned z); reads = v .1; same = v .2 ∙ subset-body kind (v .0) d f }))
-    where
-      turned : false ≡ true → ⊥
-      turned e = let z : _≡_ {A = ℕ} 0 1 = cc in omega arith
+      in-subset d f (v .0) (v .1) (v .2)))
 
 pub record BodyAt (t : List ℕ) (p : ℕ) (a a′ : Length) (b : Body Leaf) (rest : List ℕ) : Type 0 where
   pub fits : p + 2 ≤ length t

@@ -6,7 +6,7 @@ ghost use lib.ListN.{length, take};
 ghost use Rattle.template.specs.Element.{Elem};
 ghost use Rattle.template.specs.Leaf.{Leaf};
 ghost use Rattle.element.specs.Contract.{ElementAt};
-ghost use Rattle.plan.specs.Blocks.{Standing};
+ghost use Rattle.plan.specs.Blocks.{block, Standing};
 ghost use Rattle.plan.specs.Contract.{PlanOf, RowsOf};
 ghost use Rattle.plan.specs.Places.{MembersAt, RowTo};
 use assign::mask::with;
@@ -65,17 +65,24 @@ const LENGTH: u8 = 0x30;
 
 const INFINITY: u8 = 255;
 
+// What stands in the places of `blocks` that hold none.
+fn no_block() -> Block
+    ensures { λ r. ⌜ r ≡ block 0 0 0 0 ⌝ }
+{
+    Block {
+        first: 0,
+        k: 0,
+        min: 0,
+        max: 0,
+    }
+}
+
 // The plan of bytes that are refused with this number.
 fn no_plan(number: u8) -> Plan
     requires { ⌜ 0 < number ⌝ }
     ensures { λ r. ⌜ r .number ≡ number ⌝ }
 {
-    let none = Block {
-        first: 0,
-        k: 0,
-        min: 0,
-        max: 0,
-    };
+    let none = no_block();
     Plan {
         number,
         low: 0,

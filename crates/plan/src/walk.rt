@@ -1,10 +1,12 @@
 // The walk over an accepted template: its items as blocks, and where its members stand. The scan has accepted the bytes, so the walk
 // tests nothing; `places` is lent to each step, so that no step copies it.
 ghost use mathlib.Core.Path.{_≡_};
-ghost use Prim.Native.Nat.{_≤_};
-ghost use lib.ListN.{length};
+ghost use mathlib.Core.List.{List};
+ghost use Prim.Native.Nat.{ℕ, _≤_};
+ghost use lib.ListN.{length, getD};
 ghost use Rattle.plan.specs.Places.{GroupHere, GroupWalked, ItemHere, ItemWalked, ItemsHere, ItemsPlan, GroupPlan, BodyHere, BodyPlan};
 use crate::Plan;
+use crate::no_block;
 use cuts::Block;
 use template::after_element;
 
@@ -65,44 +67,59 @@ struct Item {
     block: Block,
 }
 
+// The 20 at `at`, with m members before it.
+fn plan_star(t: &[u8], at: usize, m: usize) -> Item
+    requires { ⌜ ItemHere (now t) at m × (getD (now t) at 0 ≡ 0x20) ⌝ }
+    ensures { λ r. ⌜ ((places : List ℕ) → length places ≡ 32 → ItemWalked (now (t .entry)) at m places (r .next) (r .count) (r .block) places) ⌝ }
+{
+    Item {
+        next: at + 3,
+        count: m,
+        block: Block {
+            first: m as u8,
+            k: 0,
+            min: t[at + 1],
+            max: t[at + 2],
+        },
+    }
+}
+
+// The permutation at `at`, with m members before it.
+fn plan_permutation(t: &[u8], at: usize, m: usize, places: &mut [usize; 32]) -> Item
+    requires { ⌜ ItemHere (now t) at m × (getD (now t) at 0 ≡ 0x21) × (length (now places) ≡ 32) ⌝ }
+    ensures { λ r. ⌜ ItemWalked (now (t .entry)) at m (now (places .entry)) (r .next) (r .count) (r .block) (now (places .exit)) ⌝ }
+{
+    let g = plan_members(t, at + 2, t[at + 1] as usize, m, places);
+    Item {
+        next: g.next,
+        count: g.count,
+        block: Block {
+            first: m as u8,
+            k: (g.count - m) as u8,
+            min: g.min,
+            max: g.max,
+        },
+    }
+}
+
 // The item of a record of at `at`, with m members before it.
 fn plan_item(t: &[u8], at: usize, m: usize, places: &mut [usize; 32]) -> Item
     requires { ⌜ ItemHere (now t) at m × (length (now places) ≡ 32) ⌝ }
     ensures { λ r. ⌜ ItemWalked (now (t .entry)) at m (now (places .entry)) (r .next) (r .count) (r .block) (now (places .exit)) ⌝ }
 {
     let kind = t[at];
-    let first = m as u8;
     if kind == STARS {
-        return Item {
-            next: at + 3,
-            count: m,
-            block: Block {
-                first,
-                k: 0,
-                min: t[at + 1],
-                max: t[at + 2],
-            },
-        };
+        return plan_star(t, at, m);
     }
     if kind == PERMUTATION {
-        let g = plan_members(t, at + 2, t[at + 1] as usize, m, places);
-        return Item {
-            next: g.next,
-            count: g.count,
-            block: Block {
-                first,
-                k: (g.count - m) as u8,
-                min: g.min,
-                max: g.max,
-            },
-        };
+        return plan_permutation(t, at, m, places);
     }
     places[m] = at;
     Item {
         next: after_element(t, at),
         count: m + 1,
         block: Block {
-            first,
+            first: m as u8,
             k: 1,
             min: 0,
             max: 0,
@@ -115,12 +132,7 @@ fn plan_items(t: &[u8], at: usize, n: usize, low: u8, high: u8) -> Plan
     requires { ⌜ ItemsHere (now t) at n ⌝ }
     ensures { λ r. ⌜ ItemsPlan (now (t .entry)) at n low high r ⌝ }
 {
-    let none = Block {
-        first: 0,
-        k: 0,
-        min: 0,
-        max: 0,
-    };
+    let none = no_block();
     let mut blocks = [none; 32];
     let mut places = [0usize; 32];
     let mut p = at;
@@ -151,12 +163,7 @@ fn plan_group(t: &[u8], at: usize, n: usize, kind: u8, low: u8, high: u8) -> Pla
     requires { ⌜ GroupHere (now t) at n 0 ⌝ }
     ensures { λ r. ⌜ GroupPlan (now (t .entry)) at n kind low high r ⌝ }
 {
-    let none = Block {
-        first: 0,
-        k: 0,
-        min: 0,
-        max: 0,
-    };
+    let none = no_block();
     let mut blocks = [none; 32];
     let mut places = [0usize; 32];
     let g = plan_members(t, at, n, 0, &mut places);

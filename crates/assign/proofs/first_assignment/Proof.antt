@@ -1,19 +1,13 @@
 -- `first_assignment` meets its contract: an assignment from `saturate`, and the first one from `refine`; a group that is short where there is none.
 -- Assumes nothing.
-use mathlib.Core.Path.{_≡_, refl, sym, subst, _∙_}
-use mathlib.Core.Bool.{Bool, true, false}
-use mathlib.Core.List.{List}
-use Prim.Native.Nat.{ℕ}
+use mathlib.Core.Path.{sym, subst}
+use mathlib.Core.Bool.{Bool}
 use borrow.Author.Tests.{not-true, not-false}
 use Rattle.assign.specs.Assignment.{Answer}
 use Rattle.assign.proofs.Pieces.{answer-found, answer-none, leads-none}
 use Rattle.assign.proofs.Deals.{dealt-empty}
 use Rattle.assign.proofs.first_assignment.Statement.{statement}
 use Rattle.assign.proofs.first_assignment.Tie as tie
-use Rattle.assign.proofs.first_assignment.Reads as reads
-use Rattle.assign.proofs.first_assignment.Lts as lts
-use Rattle.assign.proofs.refine.refine.Reads as refine-reads
-use Rattle.assign.proofs.saturate.saturate.Reads as saturate-reads
 
 -- no members
 returns : tie.Need-returns

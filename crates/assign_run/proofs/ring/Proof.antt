@@ -5,9 +5,6 @@ use native.Mathlib.Omega.{arith}
 use borrow.Author.Needs.{needs}
 use Rattle.assign_run.proofs.ring.Statement.{statement}
 use Rattle.assign_run.proofs.ring.Tie as tie
-use Rattle.assign_run.proofs.ring.Reads as reads
-use Rattle.assign_run.proofs.ring.Lts as lts
-use Rattle.assign.proofs.mask.with.Reads as with-reads
 
 abbrev Inv-loop : tie.InvT-loop
 Inv-loop n rows₀ m₀ rows m = m ≤ n

@@ -4,10 +4,6 @@ use native.Mathlib.Omega.{arith}
 use borrow.Author.Needs.{needs}
 use Rattle.assign_run.proofs.show.Statement.{statement}
 use Rattle.assign_run.proofs.show.Tie as tie
-use Rattle.assign_run.proofs.show.Reads as reads
-use Rattle.assign_run.proofs.show.Lts as lts
-use Rattle.assign_run.proofs.letter.Reads as letter-reads
-use Rattle.assign_run.proofs.write.Reads as write-reads
 
 abbrev Inv-loop : tie.InvT-loop
 Inv-loop w line₀ i₀ line i = i ≤ 32

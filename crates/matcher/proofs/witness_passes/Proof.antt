@@ -7,8 +7,8 @@ use Rattle.matcher.proofs.witness_passes.Statement.{statement}
 use Rattle.matcher.proofs.witness_passes.Tie as tie
 use Rattle.matcher.proofs.witness_passes.Reads as reads
 use Rattle.matcher.proofs.witness_passes.Lts as lts
-use Rattle.cuts.proofs.cut_passes.Reads as cut-passes-reads
-use Rattle.cuts.proofs.filling_passes.Reads as filling-passes-reads
+use Rattle.passes.proofs.cut_passes.Reads as cut-passes-reads
+use Rattle.passes.proofs.filling_passes.Reads as filling-passes-reads
 use Rattle.matcher.proofs.length_met.Reads as length-met-reads
 use Rattle.plan.proofs.rows_of.Reads as rows-of-reads
 

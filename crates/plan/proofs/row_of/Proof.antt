@@ -30,7 +30,7 @@ mul-x : tie.Need-mul-x Inv-loop μ-loop
 mul-x c = omega (arith, c .loop-test .taken, c .before .before .before .pre)
 
 shared-slice-copy-out-x : tie.Need-shared-slice-copy-out-x Inv-loop μ-loop
-shared-slice-copy-out-x c = c .loop-test .taken
+shared-slice-copy-out-x c = omega (arith, c .loop-test .taken)
 
 match-element-requires : tie.Need-match-element-requires Inv-loop μ-loop
 match-element-requires c κs = c .before .before .before .before .pre .0

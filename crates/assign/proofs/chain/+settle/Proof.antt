@@ -4,7 +4,7 @@
 -- Assumes nothing.
 use mathlib.Core.Path.{_≡_, refl, sym, subst, _∙_}
 use mathlib.Core.Bool.{true}
-use Prim.Native.Nat.{ℕ, _<_, _≤_}
+use Prim.Native.Nat.{ℕ, _<_}
 use lib.ListN.{length, getD}
 use mir.Syntax.{w8}
 use borrow.Kind.Array.{eInt, good-length}
@@ -14,7 +14,6 @@ use native.Mathlib.Omega.{arith}
 use borrow.Fn.Kinds.{In}
 use borrow.Fn.PlainCycle.{Measures, is, falls, and}
 use Rattle.assign.specs.Rows.{bit, may, count}
-use Rattle.assign.specs.Search.{reach}
 use Rattle.assign.proofs.Lemmas.{clash}
 use Rattle.assign.proofs.Masks.{row-bits, row-none}
 use Rattle.assign.proofs.Chains.{Walk, unseen, unseen-falls, left-falls, flipped-down, reach-free, begin, turn-seen, turn-stuck, turn-gave, finish, give-spare, filled-spare, filled-chain, settled-found}

@@ -1,19 +1,15 @@
 -- `open_places` meets its contract. The invariant: `free` and `held` are the places below e. The measure is what is left of the piece.
 -- Assumes nothing.
-use mathlib.Core.Path.{_≡_, refl, sym, subst₂, _∙_}
+use mathlib.Core.Path.{_≡_, sym, subst₂}
 use mathlib.Core.Logic.{⊎-elim}
-use Prim.Native.Nat.{ℕ, _+_, _-_, _<_, _≤_, max}
+use Prim.Native.Nat.{ℕ, _+_, _-_, _≤_}
 use native.Mathlib.Omega.{arith}
-use borrow.Author.Needs.{needs}
 use Rattle.assign.specs.Rows.{bit}
-use Rattle.assign.specs.Search.{Opened}
+use Rattle.assign.specs.Chain.{Opened}
 use Rattle.assign.proofs.Masks.{bit-none}
 use Rattle.assign.proofs.Chains.{opened-none, opened-free, opened-held}
 use Rattle.assign.proofs.chain.open_places.Statement.{statement}
 use Rattle.assign.proofs.chain.open_places.Tie as tie
-use Rattle.assign.proofs.chain.open_places.Reads as reads
-use Rattle.assign.proofs.chain.open_places.Lts as lts
-use Rattle.assign.proofs.mask.with.Reads as with-reads
 
 abbrev Inv-loop : tie.InvT-loop
 Inv-loop from to w free₀ held₀ e₀ free held e = (from ≤ e) × (e ≤ to) × Opened w from e (bit free) (bit held)

@@ -1,6 +1,6 @@
 -- `exchange` meets its contract: each of its three ends is a law of Deals. Assumes nothing.
-use mathlib.Core.Path.{_≡_, refl, sym, subst, _∙_}
-use Prim.Native.Nat.{ℕ, _+_, _<_, _≤_}
+use mathlib.Core.Path.{_≡_, refl}
+use Prim.Native.Nat.{_<_}
 use native.Mathlib.Omega.{arith}
 use lib.ListN.{getD}
 use borrow.Author.Needs.{needs}
@@ -8,10 +8,6 @@ use Rattle.assign.proofs.Lemmas.{clash}
 use Rattle.assign.proofs.Deals.{exchange-spare, exchange-served, exchange-blocked}
 use Rattle.assign.proofs.refine.exchange.Statement.{statement}
 use Rattle.assign.proofs.refine.exchange.Tie as tie
-use Rattle.assign.proofs.refine.exchange.Reads as reads
-use Rattle.assign.proofs.refine.exchange.Lts as lts
-use Rattle.assign.proofs.chain.place.Reads as place-reads
-use Rattle.assign.proofs.refine.place_of.Reads as place-of-reads
 
 place-of-requires : tie.Need-place-of-requires
 place-of-requires c κs = search needs

@@ -1,24 +1,17 @@
 -- `improve` meets its contract. The invariant: `left` has only rivals, and an assignment that is as w before e and has a smaller byte at e has one of `left` there.
 -- The measure is how many rivals are left. Assumes nothing.
-use mathlib.Core.Path.{_≡_, refl, sym, ap, _∙_}
+use mathlib.Core.Path.{_≡_, ap, _∙_}
 use mathlib.Core.Bool.{true}
-use Prim.Native.Nat.{ℕ, _+_, _-_, _<_, _≤_}
+use Prim.Native.Nat.{ℕ, _+_, _-_, _≤_}
 use native.Mathlib.Omega.{arith}
-use lib.ListN.{getD}
-use borrow.Author.Needs.{needs}
 use Rattle.assign.specs.Rows.{bit, count}
-use Rattle.assign.specs.Search.{Dealt, Rival}
+use Rattle.assign.specs.Saturate.{Dealt}
+use Rattle.assign.specs.Refine.{Rival}
 use Rattle.assign.proofs.Masks.{bit-none}
 use Rattle.assign.proofs.Chains.{left-falls, flipped-down}
 use Rattle.assign.proofs.Firsts.{Going, going-start, going-fail, going-works, going-done, rival-asks}
 use Rattle.assign.proofs.refine.improve.Statement.{statement}
 use Rattle.assign.proofs.refine.improve.Tie as tie
-use Rattle.assign.proofs.refine.improve.Reads as reads
-use Rattle.assign.proofs.refine.improve.Lts as lts
-use Rattle.assign.proofs.visit.flip.Reads as flip-reads
-use Rattle.assign.proofs.visit.lowest.Reads as lowest-reads
-use Rattle.assign.proofs.refine.exchange.Reads as exchange-reads
-use Rattle.assign.proofs.refine.rivals.Reads as rivals-reads
 
 abbrev Inv-loop : tie.InvT-loop
 Inv-loop rows to w e left₀ left = ((m : ℕ) → bit left m ≡ true → Rival rows w e to m)
@@ -27,13 +20,13 @@ Inv-loop rows to w e left₀ left = ((m : ℕ) → bit left m ≡ true → Rival
 abbrev μ-loop : tie.MeasureT-loop
 μ-loop rows to w e left₀ left = count (bit left) 32
 
-rivals-requires : tie.Need-rivals-requires Inv-loop μ-loop
-rivals-requires c κs = c .pre
+candidates-requires : tie.Need-candidates-requires Inv-loop μ-loop
+candidates-requires c κs = c .pre
 
 loop-holds : tie.Need-loop-holds Inv-loop μ-loop
 loop-holds c =
     let p = c .before .pre in
-    (c .rivals .ensures .sound, λ first k from block after dealt. going-start block (omega arith) dealt (c .rivals .ensures))
+    (c .candidates .ensures .sound, λ first k from block after dealt. going-start block (omega arith) dealt after (c .candidates .ensures))
 
 lowest-requires : tie.Need-lowest-requires Inv-loop μ-loop
 lowest-requires c κs = omega (arith, c .loop-test .taken)
@@ -82,4 +75,4 @@ returns-2 c =
 
 pub improve-spec : {M : Type 1} → statement M
 improve-spec =
-    tie.close (tie.spec Inv-loop μ-loop rivals-requires loop-holds lowest-requires exchange-requires returns flip-requires loop-less loop-again returns-2)
+    tie.close (tie.spec Inv-loop μ-loop candidates-requires loop-holds lowest-requires exchange-requires returns flip-requires loop-less loop-again returns-2)

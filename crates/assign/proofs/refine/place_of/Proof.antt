@@ -1,15 +1,13 @@
 -- `place_of` meets its contract. The invariant: every place before `to` that holds m is p or before p. The measure is p. It ends before 0, since m stands somewhere.
 -- Assumes nothing.
-use mathlib.Core.Path.{_≡_, refl, sym, ap, _∙_}
+use mathlib.Core.Path.{_≡_, sym, ap, _∙_}
 use mathlib.Core.Logic.{⊎-elim}
-use Prim.Native.Nat.{ℕ, _+_, _-_, _<_, _≤_}
+use Prim.Native.Nat.{ℕ, _-_, _<_, _≤_}
 use native.Mathlib.Omega.{arith}
 use lib.ListN.{getD}
 use Rattle.assign.proofs.Lemmas.{same?}
 use Rattle.assign.proofs.refine.place_of.Statement.{statement}
 use Rattle.assign.proofs.refine.place_of.Tie as tie
-use Rattle.assign.proofs.refine.place_of.Reads as reads
-use Rattle.assign.proofs.refine.place_of.Lts as lts
 
 abbrev Inv-loop : tie.InvT-loop
 Inv-loop m to w p₀ p = (p < to) × ((i : ℕ) → i < to → getD w i 0 ≡ m → i ≤ p)

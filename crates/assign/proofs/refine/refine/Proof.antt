@@ -1,15 +1,12 @@
 -- `refine` meets its contract. The invariant: x is an assignment, and every assignment is as x before e, or comes later for a place before e.
 -- The measure is what is left of the piece. At the last place there is nothing to change. Assumes nothing.
-use mathlib.Core.Path.{_≡_}
-use Prim.Native.Nat.{ℕ, _+_, _-_, _<_, _≤_}
+use Prim.Native.Nat.{ℕ, _+_, _-_, _≤_}
 use native.Mathlib.Omega.{arith}
-use Rattle.assign.specs.Search.{Dealt, Leads}
+use Rattle.assign.specs.Saturate.{Dealt}
+use Rattle.assign.specs.Refine.{Leads}
 use Rattle.assign.proofs.Firsts.{leads-start, leads-step, leads-last}
 use Rattle.assign.proofs.refine.refine.Statement.{statement}
 use Rattle.assign.proofs.refine.refine.Tie as tie
-use Rattle.assign.proofs.refine.refine.Reads as reads
-use Rattle.assign.proofs.refine.refine.Lts as lts
-use Rattle.assign.proofs.refine.improve.Reads as improve-reads
 
 abbrev Inv-loop : tie.InvT-loop
 Inv-loop rows from to x₀ e₀ x e = (from ≤ e) × (e ≤ to) × ((first k : ℕ) → first + k ≤ 32 → Dealt rows first k from to x₀ → Leads rows first k from to x e)
@@ -48,7 +45,7 @@ returns c =
     let l = c .before in
     let p = l .before .pre in
     let i = l .loop .inv in
-    λ first k block dealt. leads-last block (p .1) (c .loop-test .left) (i .1) (i .2 first k block dealt)
+    λ first k block dealt. leads-last block (p .1) (i .0) (c .loop-test .left) (i .1) (i .2 first k block dealt)
 
 pub refine-spec : {M : Type 1} → statement M
 refine-spec = tie.close (tie.spec Inv-loop μ-loop loop-holds add-loop improve-requires add-e loop-less loop-again returns)

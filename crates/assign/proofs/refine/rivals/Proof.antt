@@ -2,22 +2,17 @@
 -- Assumes nothing.
 use mathlib.Core.Path.{_≡_, refl, sym, subst, _∙_}
 use mathlib.Core.Logic.{⊎-elim}
-use Prim.Native.Nat.{ℕ, _+_, _-_, _<_, _≤_, min}
+use Prim.Native.Nat.{ℕ, _+_, _-_, _<_, _≤_}
 use native.Mathlib.Omega.{arith}
 use lib.ListN.{getD}
 use borrow.Author.Needs.{needs}
 use Rattle.assign.specs.Rows.{bit}
-use Rattle.assign.specs.Search.{Rivals}
+use Rattle.assign.specs.Refine.{Rivals}
 use Rattle.assign.proofs.Lemmas.{clash}
 use Rattle.assign.proofs.Masks.{bit-none, row-has}
 use Rattle.assign.proofs.Firsts.{rivals-none, rivals-skip, rivals-more}
 use Rattle.assign.proofs.refine.rivals.Statement.{statement}
 use Rattle.assign.proofs.refine.rivals.Tie as tie
-use Rattle.assign.proofs.refine.rivals.Reads as reads
-use Rattle.assign.proofs.refine.rivals.Lts as lts
-use Rattle.assign.proofs.mask.has.Reads as has-reads
-use Rattle.assign.proofs.mask.with.Reads as with-reads
-use Rattle.assign.proofs.refine.least.Reads as least-reads
 
 abbrev Inv-loop : tie.InvT-loop
 Inv-loop rows to e w bound found₀ p₀ found p = (e < p) × (p ≤ to) × Rivals rows w e p (bit found)

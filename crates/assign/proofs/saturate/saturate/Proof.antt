@@ -1,23 +1,18 @@
 -- `saturate` meets its contract. The invariant: w is an assignment by the first j members of the block, and `free` and `held` are its spare and its held places.
 -- The measure is how many members are left. Assumes nothing.
-use mathlib.Core.Path.{_≡_, refl, sym, _∙_}
-use Prim.Native.Nat.{ℕ, _+_, _-_, _<_, _≤_}
+use mathlib.Core.Path.{_≡_, refl}
+use Prim.Native.Nat.{_-_, _<_, _≤_}
 use native.Mathlib.Omega.{arith}
 use borrow.Author.Tests.{not-true, not-false}
 use Rattle.assign.specs.Rows.{bit}
-use Rattle.assign.specs.Search.{Dealt, Opened}
+use Rattle.assign.specs.Chain.{Opened}
+use Rattle.assign.specs.Saturate.{Dealt}
 use Rattle.assign.proofs.Lemmas.{clash, between-to}
 use Rattle.assign.proofs.Masks.{bit-none}
 use Rattle.assign.proofs.Chains.{opened-ready, opened-filled, placed}
 use Rattle.assign.proofs.Deals.{dealt-empty, dealt-more, dealt-short}
 use Rattle.assign.proofs.saturate.saturate.Statement.{statement}
 use Rattle.assign.proofs.saturate.saturate.Tie as tie
-use Rattle.assign.proofs.saturate.saturate.Reads as reads
-use Rattle.assign.proofs.saturate.saturate.Lts as lts
-use Rattle.assign.proofs.chain.open_places.Reads as open-places-reads
-use Rattle.assign.proofs.chain.settle.Reads as settle-reads
-use Rattle.assign.proofs.mask.with.Reads as with-reads
-use Rattle.assign.proofs.visit.flip.Reads as flip-reads
 
 abbrev Inv-loop : tie.InvT-loop
 Inv-loop rows first k from to w₀ free₀ held₀ j₀ w free held j = (j ≤ k) × Dealt rows first j from to w × Opened w from to (bit free) (bit held)
@@ -26,7 +21,7 @@ abbrev μ-loop : tie.MeasureT-loop
 μ-loop rows first k from to w₀ free₀ held₀ j₀ w free held j = k - j
 
 open-places-requires : tie.Need-open-places-requires Inv-loop μ-loop
-open-places-requires c κs = (c .pre .1, c .pre .2)
+open-places-requires c κs = (omega arith, omega arith)
 
 loop-holds : tie.Need-loop-holds Inv-loop μ-loop
 loop-holds c = (omega arith, dealt-empty refl, c .open-places .ensures)

@@ -1,55 +1,41 @@
--- `joined` meets its contract: nothing before what is absent, 255 before the rest where the block has no members, else the first assignment
--- of the piece before the rest. Assumes nothing.
-use mathlib.Core.Path.{_≡_}
+-- `joined` meets its contract: nothing before what is absent, 255 before the rest where the block has no members, one member on one element, else
+-- the first assignment of the piece before the rest. Assumes nothing.
 use native.Mathlib.Omega.{arith}
 use borrow.Author.Needs.{needs}
 use borrow.Author.Tests.{not-true, not-false}
-use Rattle.cuts.proofs.Givens.{joined-absent, joined-none, joined-found, joined-spare}
+use Rattle.cuts.proofs.Givens.{joined-absent, joined-spare, joined-single}
 use Rattle.cuts.proofs.joins.joined.Statement.{statement}
 use Rattle.cuts.proofs.joins.joined.Tie as tie
 use Rattle.cuts.proofs.joins.joined.Reads as reads
 use Rattle.cuts.proofs.joins.joined.Lts as lts
-use Rattle.assign.proofs.first_assignment.Reads as first-assignment-reads
-use Rattle.cuts.proofs.joins.splice.Reads as splice-reads
+use Rattle.cuts.proofs.joins.searched.Reads as searched-reads
+use Rattle.cuts.proofs.joins.single.Reads as single-reads
 
 returns : tie.Need-returns
-returns c =
-    λ bs n t end g. joined-absent (c .before .before .pre .1) t end (c .before .before .pre .3) (c .before .before .pre .4) g (not-true _ (c .if1 .taken))
+returns c = let p = c .before .before .pre in λ bs n t end g. joined-absent (p .1) t end (p .3) (p .4) g (not-true _ (c .if1 .taken))
 
 returns-2 : tie.Need-returns-2
 returns-2 c =
-    λ bs n t end g. joined-spare (c .before .before .before .before .pre .1) t end (c .before .before .before .before .pre .3) (c .before .before .before .before .pre .4) g (c .if2 .taken) (not-false _ (c .before .before .if1 .left))
+    let p = c .before .before .before .before .pre in λ bs n t end g. joined-spare (p .1) t end (p .3) (p .4) g (c .if2 .taken) (not-false _ (c .before .before .if1 .left))
 
-cast-first-assignment : tie.Need-cast-first-assignment
-cast-first-assignment c = omega arith
+add-if4 : tie.Need-add-if4
+add-if4 c = search needs
 
-cast-first-assignment-2 : tie.Need-cast-first-assignment-2
-cast-first-assignment-2 c = omega arith
-
-first-assignment-requires : tie.Need-first-assignment-requires
-first-assignment-requires c κs = (c .before .before .before .before .pre .0, c .before .before .before .before .pre .1, c .before .before .before .before .pre .2)
+single-requires : tie.Need-single-requires
+single-requires c κs = search needs
 
 returns-3 : tie.Need-returns-3
 returns-3 c =
-    λ bs n t end g. joined-none (c .before .before .before .before .before .before .before .before .pre .1) t end (c .before .before .before .before .before .before .before .before .pre .3) (c .before .before .before .before .before .before .before .before .pre .4) g (c .before .before .before .first-assignment .ensures) (not-true _ (c .if3 .taken))
+    let p = c .before .before .before .before .before .before .before .before .pre in λ bs n t end g. joined-single (p .1) t end (p .3) (p .4) g (c .before .before .if3 .taken) (c .before .if4 .taken) (omega arith) (not-false _ (c .before .before .before .before .before .before .if1 .left)) (c .single .ensures)
 
-splice-requires : tie.Need-splice-requires
-splice-requires c κs =
-    (c .before .before .before .before .before .before .before .before .before .pre .1, c .before .before .before .before .before .before .before .before .before .pre .2)
+searched-requires : tie.Need-searched-requires
+searched-requires c κs =
+    let p = c .before .before .before .before .before .before .pre in (p .0, p .1, p .2, p .3, p .4, not-false _ (c .before .before .before .before .if1 .left))
 
 returns-4 : tie.Need-returns-4
-returns-4 c =
-    λ bs n t end g. joined-found (c .before .before .before .before .before .before .before .before .before .before .pre .1) t end (c .before .before .before .before .before .before .before .before .before .before .pre .3) (c .before .before .before .before .before .before .before .before .before .before .pre .4) g (not-false _ (c .before .before .before .before .before .before .before .before .if1 .left)) (c .before .before .before .before .before .first-assignment .ensures) (not-false _ (c .before .before .if3 .left)) (c .splice .ensures)
+returns-4 c = c .searched .ensures
 
 pub joined-spec : {M : Type 1} → statement M
 joined-spec =
     tie.close
-    (tie.spec
-    returns
-    returns-2
-    cast-first-assignment
-    cast-first-assignment-2
-    first-assignment-requires
-    returns-3
-    splice-requires
-    returns-4)
+    (tie.spec returns returns-2 add-if4 single-requires returns-3 searched-requires returns-4)

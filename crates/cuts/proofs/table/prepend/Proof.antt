@@ -1,61 +1,43 @@
--- `prepend` meets its contract. The invariant: the places before `from` have the new block, the others not yet. The measure is the number of
--- places left. Assumes nothing.
-use mathlib.Core.Path.{_≡_, sym, _∙_}
-use mathlib.Core.List.{List}
-use Prim.Native.Nat.{ℕ, _+_, _-_, _≤_, _<_}
+-- `prepend` meets its contract: each way is one of the three. Assumes nothing.
 use native.Mathlib.Omega.{arith}
 use borrow.Author.Needs.{needs}
-use Rattle.cuts.specs.declared.Block.{Block}
-use Rattle.cuts.specs.Table.{Tabled}
-use Rattle.cuts.proofs.Tables.{Walked, walk-start, walk-table, walk-step, walk-end}
 use Rattle.cuts.proofs.table.prepend.Statement.{statement}
 use Rattle.cuts.proofs.table.prepend.Tie as tie
 use Rattle.cuts.proofs.table.prepend.Reads as reads
 use Rattle.cuts.proofs.table.prepend.Lts as lts
-use Rattle.cuts.proofs.table.at_place.Reads as at-place-reads
+use Rattle.cuts.proofs.table.prepend_any.Reads as prepend-any-reads
+use Rattle.cuts.proofs.table.prepend_even.Reads as prepend-even-reads
+use Rattle.cuts.proofs.table.prepend_open.Reads as prepend-open-reads
 
-abbrev Inv-loop : tie.InvT-loop
-Inv-loop rows b n u₀ from₀ u from = (bs : List Block) → Tabled rows bs n 0 u₀ → Walked rows b bs n from u
+prepend-even-requires : tie.Need-prepend-even-requires
+prepend-even-requires c κs = (c .before .before .pre .0, c .before .before .pre .1, c .if1 .taken)
 
-abbrev μ-loop : tie.MeasureT-loop
-μ-loop rows b n u₀ from₀ u from = (n + 1) - from
+returns : tie.Need-returns
+returns c = c .prepend-even .ensures
 
-loop-holds : tie.Need-loop-holds Inv-loop μ-loop
-loop-holds c = λ bs g. walk-start _ g
+cast-if3 : tie.Need-cast-if3
+cast-if3 c = search needs
 
-at-place-requires : tie.Need-at-place-requires Inv-loop μ-loop
-at-place-requires c κs = (c .before .before .pre .0, c .loop-test .taken, c .before .before .pre .1)
+prepend-open-requires : tie.Need-prepend-open-requires
+prepend-open-requires c κs = (c .before .before .if2 .taken, c .if3 .taken, c .before .before .before .before .before .before .pre .1)
 
-mul-u : tie.Need-mul-u Inv-loop μ-loop
-mul-u c = search needs
+returns-2 : tie.Need-returns-2
+returns-2 c = c .prepend-open .ensures _
 
-array-set-from-u : tie.Need-array-set-from-u Inv-loop μ-loop
-array-set-from-u c = omega arith
+prepend-any-requires : tie.Need-prepend-any-requires
+prepend-any-requires c κs = c .before .before .before .before .pre
 
-add-from : tie.Need-add-from Inv-loop μ-loop
-add-from c = omega arith
-
-loop-less : tie.Need-loop-less Inv-loop μ-loop
-loop-less c = omega arith
-
-loop-again : tie.Need-loop-again Inv-loop μ-loop
-loop-again c =
-    λ bs g. let h = c .before .before .loop .inv bs g in walk-step (c .before .before .before .pre .1) (c .before .loop-test .taken) h (c .at-place .ensures bs (walk-table h))
-
-returns : tie.Need-returns Inv-loop μ-loop
-returns c = λ bs g. walk-end (omega arith) (c .before .loop .inv bs g)
+returns-3 : tie.Need-returns-3
+returns-3 c = c .prepend-any .ensures
 
 pub prepend-spec : {M : Type 1} → statement M
 prepend-spec =
     tie.close
     (tie.spec
-    Inv-loop
-    μ-loop
-    loop-holds
-    at-place-requires
-    mul-u
-    array-set-from-u
-    add-from
-    loop-less
-    loop-again
-    returns)
+    prepend-even-requires
+    returns
+    cast-if3
+    prepend-open-requires
+    returns-2
+    prepend-any-requires
+    returns-3)

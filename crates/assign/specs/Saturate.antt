@@ -1,0 +1,27 @@
+-- Assignments as 32 bytes: what the contract of src/saturate.rt cites.
+-- fits rows first k from to m e <-> m is in the block, e in the piece, and m may take e (a test)
+-- Dealt rows first k from to w  <-> w is an assignment of the piece with 255 at all other places
+-- Saturated .. found w          <-> what `saturate` gives
+-- Assumes nothing.
+use mathlib.Core.Path.{_≡_}
+use mathlib.Core.Logic.{_⊎_}
+use mathlib.Core.Bool.{Bool, true, false, _&&_}
+use mathlib.Core.List.{List}
+use Prim.Native.Nat.{ℕ, _+_, _≤_, _<_}
+use lib.ListN.{length, getD, replicate}
+use Rattle.assign.specs.Rows.{between, cnt}
+use Rattle.assign.specs.Assignment.{Short}
+use Rattle.assign.specs.Chain.{within}
+
+unfoldable pub fits : List ℕ → ℕ → ℕ → ℕ → ℕ → ℕ → ℕ → Bool
+fits rows first k from to m e = between first (first + k) m && within rows from to m e
+
+pub record Dealt (rows : List ℕ) (first k from to : ℕ) (w : List ℕ) : Type 0 where
+  pub size : length w ≡ 32
+  pub right : (e : ℕ) → e < 32 → (getD w e 0 ≡ 255) ⊎ (fits rows first k from to (getD w e 0) e ≡ true)
+  pub once : (m : ℕ) → first ≤ m → m < first + k → cnt m w ≡ 1
+
+pub record Saturated (rows : List ℕ) (first k from to : ℕ) (found : Bool) (w : List ℕ) : Type 0 where
+  pub dealt : found ≡ true → Dealt rows first k from to w
+  pub short : found ≡ false → Short rows first k from to
+  pub blank : found ≡ false → w ≡ replicate 32 255

@@ -1,0 +1,23 @@
+-- Each entry point's promise allows one result only, every byte of the room included, stated of the contract itself. Assumes nothing.
+use mathlib.Core.Path.{_≡_, sym, _∙_}
+use mathlib.Core.List.{List}
+use Prim.Native.Nat.{ℕ}
+use borrow.Fn.Kinds.{Dens, resT, endedOf}
+use contract.Lifetimes.{Lfts}
+use denote.Triple.Clauses.{AtExit}
+use Rattle.matcher.specs.Answer.{Given, given}
+use Rattle.matcher.proofs.match_list.Reads as match-list
+use Rattle.matcher.proofs.match_list.Kinds as match-list-kinds
+use Rattle.matcher.proofs.judge.Reads as judge
+use Rattle.matcher.proofs.judge.Kinds as judge-kinds
+
+one-given : (g : Given) (r r′ : ℕ) (a a′ : List ℕ) → given r a ≡ g → given r′ a′ ≡ g → (r ≡ r′) × (a ≡ a′)
+one-given g r r′ a a′ p q = (cc, cc)
+
+pub match-list-unique : (κs : Lfts 3) (a : Dens κs match-list-kinds.ps) (r r′ : resT match-list-kinds.r κs .Denot) (s s′ : AtExit (endedOf 3 match-list-kinds.ps match-list-kinds.r) κs)
+    → match-list.Post κs a r s → match-list.Post κs a r′ s′ → (r ≡ r′) × (s .1 .1 .0 .now ≡ s′ .1 .1 .0 .now)
+match-list-unique κs a r r′ s s′ p q = one-given _ r r′ _ _ p q
+
+pub judge-unique : (κs : Lfts 3) (a : Dens κs judge-kinds.ps) (r r′ : resT judge-kinds.r κs .Denot) (s s′ : AtExit (endedOf 3 judge-kinds.ps judge-kinds.r) κs)
+    → judge.Post κs a r s → judge.Post κs a r′ s′ → r ≡ r′
+judge-unique κs a r r′ s s′ p q = p ∙ sym q

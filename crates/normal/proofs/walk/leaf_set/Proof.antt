@@ -1,0 +1,112 @@
+-- `normal::walk::leaf_set` meets its contract: by the leaf's kind. Assumes nothing.
+use mathlib.Core.Path.{_≡_, ap, ap₂, _∙_}
+use mathlib.Core.List.{List, [], _∷_}
+use Prim.Native.Nat.{ℕ, _+_, _≤_}
+use native.Mathlib.Omega.{arith}
+use lib.IntN.{ℤ}
+use lib.ListN.{length, getD}
+use borrow.Author.Needs.{needs}
+use Rattle.ranges.specs.Spans.{span}
+use Rattle.ranges.proofs.Locals.{again, again-same}
+use Rattle.words.specs.Integer.{intAt}
+use Rattle.normal.proofs.Walks.{leaf-fits, single-fits, range-fits, single-set, range-set, any-set}
+use Rattle.normal.proofs.walk.leaf_set.Statement.{statement}
+use Rattle.normal.proofs.walk.leaf_set.Tie as tie
+
+-- at the entry: how far the leaf reaches, by its kind
+module _ (s : tie.Start) where
+  abbrev bytes : List ℕ
+  bytes = s .args .t .now
+
+  abbrev at : ℕ
+  at = s .args .at
+
+  fits : at + 1 ≤ length bytes
+  fits = leaf-fits bytes at (s .pre)
+
+  a-single : getD bytes at 0 ≡ 1 → at + 5 ≤ length bytes
+  a-single e = single-fits bytes at (s .pre) e
+
+  a-range : getD bytes at 0 ≡ 2 → at + 9 ≤ length bytes
+  a-range e = range-fits bytes at (s .pre) e
+
+shared-slice-read-kind : tie.Need-shared-slice-read-kind
+shared-slice-read-kind c = omega (arith, fits (c .before .before))
+
+add-int-at : tie.Need-add-int-at
+add-int-at c = omega (arith, a-single (c .before .before .before) (c .if1 .taken))
+
+int-at-requires : tie.Need-int-at-requires
+int-at-requires c κs = omega (arith, a-single (c .before .before .before) (c .if1 .taken))
+
+one-requires : tie.Need-one-requires
+one-requires c κs = search needs
+
+add-t13 : tie.Need-add-t13
+add-t13 c = omega (arith, a-single (c .before .before .before .before .before) (c .before .before .if1 .taken))
+
+returns : tie.Need-returns
+returns c =
+    let s = c .before .before .before .before .before in
+    let x = c .before .int-at in
+    let e : again (x .result) ≡ intAt (bytes s) (at s + 1) = again-same (x .result) (x .ok) ∙ x .ensures in
+    (c .one .ensures .count, single-set (bytes s) (at s) (s .pre) _ (c .before .before .if1 .taken) (c .one .ensures .ranges ∙ ap (λ (z : ℤ). span z z ∷ []) e))
+
+add-int-at-2 : tie.Need-add-int-at-2
+add-int-at-2 c = omega (arith, a-range (c .before .before .before .before) (c .if2 .taken))
+
+int-at-requires-2 : tie.Need-int-at-requires-2
+int-at-requires-2 c κs = omega (arith, a-range (c .before .before .before .before) (c .if2 .taken))
+
+add-int-at-3 : tie.Need-add-int-at-3
+add-int-at-3 c = omega (arith, a-range (c .before .before .before .before .before) (c .before .if2 .taken))
+
+int-at-requires-3 : tie.Need-int-at-requires-3
+int-at-requires-3 c κs = omega (arith, a-range (c .before .before .before .before .before) (c .before .if2 .taken))
+
+one-requires-2 : tie.Need-one-requires-2
+one-requires-2 c κs = search needs
+
+add-t14 : tie.Need-add-t14
+add-t14 c = omega (arith, a-range (c .before .before .before .before .before .before .before) (c .before .before .before .if2 .taken))
+
+returns-2 : tie.Need-returns-2
+returns-2 c =
+    let s = c .before .before .before .before .before .before .before in
+    let x = c .before .before .int-at2 in
+    let y = c .before .int-at3 in
+    let e : again (x .result) ≡ intAt (bytes s) (at s + 1) = again-same (x .result) (x .ok) ∙ x .ensures in
+    let f : again (y .result) ≡ intAt (bytes s) (at s + 5) = again-same (y .result) (y .ok) ∙ y .ensures in
+    (c .one2 .ensures .count, range-set (bytes s) (at s) (s .pre) _ (c .before .before .before .if2 .taken) (c .one2 .ensures .ranges ∙ ap₂ (λ (a b : ℤ). span a b ∷ []) e f))
+
+one-requires-3 : tie.Need-one-requires-3
+one-requires-3 c κs = search needs
+
+add-t15 : tie.Need-add-t15
+add-t15 c = omega (arith, fits (c .before .before .before .before .before))
+
+returns-3 : tie.Need-returns-3
+returns-3 c =
+    let s = c .before .before .before .before .before in
+    (c .one3 .ensures .count, any-set (bytes s) (at s) (s .pre) _ (c .before .before .if1 .left) (c .before .if2 .left) (c .one3 .ensures .ranges))
+
+pub leaf-set-spec : {M : Type 1} → statement M
+leaf-set-spec =
+    tie.close
+    (tie.spec
+    shared-slice-read-kind
+    add-int-at
+    int-at-requires
+    one-requires
+    add-t13
+    returns
+    add-int-at-2
+    int-at-requires-2
+    add-int-at-3
+    int-at-requires-3
+    one-requires-2
+    add-t14
+    returns-2
+    one-requires-3
+    add-t15
+    returns-3)

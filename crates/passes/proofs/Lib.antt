@@ -1,0 +1,4 @@
+pub mod Seen
+pub mod Reaches
+pub mod Fulls
+pub mod Unique

@@ -1,0 +1,187 @@
+-- What stands in a piece of an offered list, byte by byte. Assumes nothing.
+use mathlib.Core.Path.{_≡_, refl, sym, ap, ap₂, _∙_, subst}
+use mathlib.Core.Logic.{_⊎_, inl, inr, ⊎-elim}
+use mathlib.Core.Bool.{Bool, true, false}
+use mathlib.Core.List.{List, [], _∷_, _++_}
+use Prim.Native.Nat.{ℕ, zero, suc, _+_, _-_, _≤_, _<_}
+use native.Mathlib.Numerals.{add-one}
+use native.Mathlib.Omega.{arith}
+use lib.Dec.{eqb}
+use lib.ListN.{length, getD}
+use lib.Seq.{slice, slice-empty, slice-cons, length-slice}
+use Rattle.assign.specs.Rows.{bit, may, between, oneIf, cnt, Plus}
+use Rattle.assign.specs.Assignment.{takes, Assigns}
+use Rattle.assign.proofs.Lemmas.{same?, below?, holds?, clash, not-so, between-in, between-from, between-to, hit, miss}
+use Rattle.assign.proofs.Counting.{cnt-append}
+use Rattle.assign.proofs.Masks.{bit-none}
+use Rattle.assign.proofs.Groups.{takes-inv}
+use Rattle.assign.proofs.Pieces.{slice-at}
+use Rattle.assign.proofs.Groups.{takes-spare, takes-member}
+use Rattle.cuts.specs.declared.Block.{Block}
+use Rattle.cuts.specs.Cut.{Passing}
+use Rattle.passes.specs.Reach.{Fresh, Good, Sees, Whole}
+use Rattle.cuts.proofs.Laws.{passing-true, passing-false, slice-split}
+
+-- ---- one byte
+module _ {rows : List ℕ} {b : Block} {members e x : ℕ} where
+  pub fresh-low : x < b .first → Passing (Fresh rows b members e x) false
+  fresh-low l = passing-false (λ f. let y = between-from (b .first) (b .first + b .k) x (f .inside) in omega arith)
+
+  pub fresh-high : b .first + b .k ≤ x → Passing (Fresh rows b members e x) false
+  fresh-high l = passing-false (λ f. let y = between-to (b .first) (b .first + b .k) x (f .inside) in omega arith)
+
+  pub fresh-old : bit members x ≡ true → Passing (Fresh rows b members e x) false
+  fresh-old h = passing-false (λ f. clash h (f .new))
+
+  pub fresh-may : {r : Bool} → b .first ≤ x → x < b .first + b .k → bit members x ≡ false → r ≡ may rows x e → Passing (Fresh rows b members e x) r
+  fresh-may f t n q = record {
+    passed = λ h. record { inside = between-in (b .first) (b .first + b .k) x f t; right = sym q ∙ h; new = n };
+    failed = λ h y. clash (y .right) (sym q ∙ h);
+  }
+
+-- ---- the piece so far
+one-byte : (m x : ℕ) → cnt m (x ∷ []) ≡ oneIf (eqb x m)
+unfolding cnt
+one-byte m x = omega arith
+
+-- one byte more
+slice-more : (from e : ℕ) (w : List ℕ) → from ≤ e → e < length w → slice from (e + 1) w ≡ slice from e w ++ (getD w e 0 ∷ [])
+slice-more from e w f l =
+    let last : slice e (e + 1) w ≡ getD w e 0 ∷ [] = slice-cons e (e + 1) w 0 (omega arith) (omega arith)
+    ∙ ap (λ (x : List ℕ). getD w e 0 ∷ x) (ap (λ (j : ℕ). slice j (e + 1) w) (sym (add-one e)) ∙ slice-empty (e + 1) w) in
+    slice-split from e (e + 1) w f (omega arith) (omega arith) ∙ ap (λ (x : List ℕ). slice from e w ++ x) last
+
+pub cnt-more : (m from e : ℕ) (w : List ℕ) → from ≤ e → e < length w → cnt m (slice from (e + 1) w) ≡ cnt m (slice from e w) + oneIf (eqb (getD w e 0) m)
+cnt-more m from e w f l =
+    let a = cnt-append m (slice from e w) (getD w e 0 ∷ []) in
+    let o = one-byte m (getD w e 0) in
+    ap (λ (x : List ℕ). cnt m x) (slice-more from e w f l) ∙ omega arith
+
+pub good-start : (rows : List ℕ) (b : Block) (from : ℕ) (w : List ℕ) → Good rows b from from w 0
+unfolding cnt
+good-start rows b from w = record {
+  right = λ i l. absurd (omega arith);
+  counted = λ m l. ap (λ (x : List ℕ). cnt m x) (slice-empty from w) ∙ sym (ap oneIf (bit-none m));
+}
+
+module _ {rows : List ℕ} {b : Block} {from e : ℕ} {w : List ℕ} {members : ℕ} (f : from ≤ e) (l : e < length w) (g : Good rows b from e w members) where
+  right-more : takes rows (b .first) (b .k) e (getD w e 0) ≡ true → (i : ℕ) → i < (e + 1) - from → takes rows (b .first) (b .k) (from + i) (getD w (from + i) 0) ≡ true
+  right-more h i k = ⊎-elim
+      (λ (q : from + i ≡ e). subst (λ (j : ℕ). takes rows (b .first) (b .k) j (getD w j 0) ≡ true) (sym q) h)
+      (λ (q : from + i ≡ e → ⊥). g .right i (omega arith))
+      (same? (from + i) e)
+
+  pub good-spare : getD w e 0 ≡ 255 → Good rows b from (e + 1) w members
+  good-spare q = record {
+    right = right-more (takes-spare rows (b .first) (b .k) e (getD w e 0) q);
+    counted = λ m k.
+        let c = cnt-more m from e w f l in
+        let z = miss (getD w e 0) m (λ p. omega arith) in
+        let h = g .counted m k in
+        omega arith;
+  }
+
+  pub good-member : {more : ℕ} → Fresh rows b members e (getD w e 0) → Plus (bit members) (getD w e 0) (bit more) → Good rows b from (e + 1) w more
+  good-member {more} h p = record {
+    right = right-more (takes-member rows (b .first) (b .k) e (getD w e 0) (h .inside) (h .right));
+    counted = λ m k.
+        let c = cnt-more m from e w f l in
+        let y = g .counted m k in
+        ⊎-elim
+        (λ (q : getD w e 0 ≡ m).
+        let z = hit (getD w e 0) m q in
+        let old : oneIf (bit members m) ≡ 0 = ap oneIf (subst (λ (j : ℕ). bit members j ≡ false) q (h .new)) in
+        let new : oneIf (bit more m) ≡ 1 = ap oneIf (subst (λ (j : ℕ). bit more j ≡ true) q (p .self)) in
+        omega arith)
+        (λ (q : getD w e 0 ≡ m → ⊥).
+        let z = miss (getD w e 0) m q in
+        let same : oneIf (bit more m) ≡ oneIf (bit members m) = ap oneIf (p .other m (λ r. q (sym r))) in
+        omega arith)
+        (same? (getD w e 0) m);
+  }
+
+  -- a byte that is neither 255 nor a new member: no assignment
+  pub good-stop : {to : ℕ} → e < to → to ≤ length w → (getD w e 0 ≡ 255 → ⊥) → b .first + b .k ≤ 32 → Passing (Fresh rows b members e (getD w e 0)) false
+      → Assigns rows (b .first) (b .k) from to (slice from to w) → ⊥
+  good-stop {to} lt end n block old a =
+      let x = getD w e 0 in
+      let long = length-slice from to w end in
+      let i = e - from in
+      let q : from + i ≡ e = omega arith in
+      let at : getD (slice from to w) i 0 ≡ x = slice-at from to w i (omega arith) ∙ ap (λ (j : ℕ). getD w j 0) q in
+      let t : takes rows (b .first) (b .k) e x ≡ true =
+      subst (λ (j : ℕ). takes rows (b .first) (b .k) j x ≡ true) q (subst (λ (y : ℕ). takes rows (b .first) (b .k) (from + i) y ≡ true) at (a .right i (omega arith))) in
+      ⊎-elim n
+      (λ (s : (between (b .first) (b .first + b .k) x ≡ true) × (may rows x e ≡ true)).
+      let y = between-from (b .first) (b .first + b .k) x (s .0) in
+      let z = between-to (b .first) (b .first + b .k) x (s .0) in
+      let stands : bit members x ≡ true = ⊎-elim
+      (λ (o : bit members x ≡ true). o)
+      (λ (o : bit members x ≡ false). absurd (old .failed refl (record { inside = s .0; right = s .1; new = o })))
+      (holds? (bit members x)) in
+      let c = g .counted x (omega arith) in
+      let o : oneIf (bit members x) ≡ 1 = ap oneIf stands in
+      let m = cnt-more x from e w f l in
+      let h = hit x x refl in
+      let split = ap (λ (v : List ℕ). cnt x v) (slice-split from (e + 1) to w (omega arith) (omega arith) end) in
+      let sum = cnt-append x (slice from (e + 1) w) (slice (e + 1) to w) in
+      let one = a .once x y z in
+      omega arith)
+      (takes-inv rows (b .first) (b .k) e x t)
+
+pub see-stop : {rows : List ℕ} {b : Block} {from e to : ℕ} {w : List ℕ} {members : ℕ} {r : Bool} → b .first + b .k ≤ 32 → from ≤ e → e < to → to ≤ length w → Good rows b from e w members
+    → (getD w e 0 ≡ 255 → ⊥) → Passing (Fresh rows b members e (getD w e 0)) r → r ≡ false → Sees rows b from to w false 0
+see-stop block f lt end g n p q = record {
+  good = λ t. absurd (clash t refl);
+  bad = λ _. good-stop f (omega arith) g lt end n block (passing-false (p .failed q));
+}
+
+pub see-end : {rows : List ℕ} {b : Block} {from to : ℕ} {w : List ℕ} {members : ℕ} → Good rows b from to w members → Sees rows b from to w true members
+see-end g = record { good = λ _. g; bad = λ f. absurd (clash refl f) }
+
+pub fresh-below : {rows : List ℕ} {b : Block} {members e x : ℕ} → b .first + b .k ≤ 32 → Fresh rows b members e x → x < 32
+fresh-below {rows} {b} {members} {e} {x} block f = let z = between-to (b .first) (b .first + b .k) x (f .inside) in omega arith
+
+-- ---- the whole piece
+pub piece-bad : {rows : List ℕ} {b : Block} {from to : ℕ} {w : List ℕ} {right : Bool} {members : ℕ} → Sees rows b from to w right members → right ≡ false
+    → Passing (Assigns rows (b .first) (b .k) from to (slice from to w)) false
+piece-bad s f = passing-false (s .bad f)
+
+pub piece-good : {rows : List ℕ} {b : Block} {from to : ℕ} {w : List ℕ} {right r : Bool} {members : ℕ} → b .first + b .k ≤ 32 → to ≤ length w
+    → Sees rows b from to w right members → right ≡ true → Passing (Whole members (b .first) (b .k)) r
+    → Passing (Assigns rows (b .first) (b .k) from to (slice from to w)) r
+piece-good {rows} {b} {from} {to} {w} {right} {r} {members} block end s t h =
+    let g = s .good t in
+    let long = length-slice from to w end in
+    record {
+      passed = λ y. record {
+        size = long;
+        right = λ i l.
+            let at : getD (slice from to w) i 0 ≡ getD w (from + i) 0 = slice-at from to w i (omega arith) in
+            subst (λ (x : ℕ). takes rows (b .first) (b .k) (from + i) x ≡ true) (sym at) (g .right i (omega arith));
+        once = λ m f u. g .counted m (omega arith) ∙ ap oneIf (h .passed y .all m f u);
+      };
+      failed = λ n a. h .failed n (record {
+        all = λ m f u. ⊎-elim
+            (λ (o : bit members m ≡ true). o)
+            (λ (o : bit members m ≡ false).
+            let c = g .counted m (omega arith) in
+            let z : oneIf (bit members m) ≡ 0 = ap oneIf o in
+            let d = a .once m f u in
+            absurd (omega arith))
+            (holds? (bit members m));
+      });
+    }
+
+-- ---- the members one by one
+pub whole-more : (members first m : ℕ) → ((v : ℕ) → first ≤ v → v < m → bit members v ≡ true) → bit members m ≡ true → (v : ℕ) → first ≤ v → v < m + 1 → bit members v ≡ true
+whole-more members first m g h v l k = ⊎-elim
+    (λ (q : v ≡ m). subst (λ (x : ℕ). bit members x ≡ true) (sym q) h)
+    (λ (q : v ≡ m → ⊥). g v l (omega arith))
+    (same? v m)
+
+pub whole-false : {members first k : ℕ} (m : ℕ) → first ≤ m → m < first + k → bit members m ≡ false → Passing (Whole members first k) false
+whole-false m l h f = passing-false (λ w. clash (w .all m l h) f)
+
+pub whole-true : {members first k : ℕ} (m : ℕ) → first + k ≤ m → ((v : ℕ) → first ≤ v → v < m → bit members v ≡ true) → Passing (Whole members first k) true
+whole-true m l g = passing-true (record { all = λ v f u. g v f (omega arith) })

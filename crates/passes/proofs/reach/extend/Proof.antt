@@ -1,0 +1,57 @@
+-- `extend` meets its contract. The invariant: the places before `to` are marked for one block more. The measure is the number of places left.
+-- Assumes nothing.
+use mathlib.Core.Path.{_≡_, refl, sym, _∙_, subst}
+use mathlib.Core.List.{List, [], _∷_, _++_}
+use Prim.Native.Nat.{ℕ, _+_, _-_, _≤_}
+use native.Mathlib.Omega.{arith}
+use lib.ListN.{length}
+use borrow.Author.Needs.{needs}
+use Rattle.cuts.specs.declared.Block.{Block}
+use Rattle.passes.specs.Reach.{Reached}
+use Rattle.passes.proofs.Reaches.{Extended, extended-start, extended-step, extended-end}
+use Rattle.passes.proofs.reach.extend.Statement.{statement}
+use Rattle.passes.proofs.reach.extend.Tie as tie
+use Rattle.passes.proofs.reach.extend.Reads as reads
+use Rattle.passes.proofs.reach.extend.Lts as lts
+use Rattle.passes.proofs.reach.ends.Reads as ends-reads
+
+abbrev Inv-loop : tie.InvT-loop
+Inv-loop rows b reach w next₀ to₀ next to = (bs : List Block) → Reached rows bs w reach → Extended rows (bs ++ (b ∷ [])) w to next
+
+abbrev μ-loop : tie.MeasureT-loop
+μ-loop rows b reach w next₀ to₀ next to = (length w + 1) - to
+
+loop-holds : tie.Need-loop-holds Inv-loop μ-loop
+loop-holds c = λ bs g. extended-start _ _ _
+
+ends-requires : tie.Need-ends-requires Inv-loop μ-loop
+ends-requires c κs = (c .before .before .before .pre .0, omega arith, c .before .before .before .pre .1)
+
+array-write-next : tie.Need-array-write-next Inv-loop μ-loop
+array-write-next c = omega arith
+
+add-to : tie.Need-add-to Inv-loop μ-loop
+add-to c = omega arith
+
+loop-less : tie.Need-loop-less Inv-loop μ-loop
+loop-less c = omega arith
+
+loop-again : tie.Need-loop-again Inv-loop μ-loop
+loop-again c = λ bs g. extended-step (omega arith) (c .before .before .loop .inv bs g) (c .ends .ensures bs g)
+
+returns : tie.Need-returns Inv-loop μ-loop
+returns c = λ bs g. extended-end (omega arith) (c .before .loop .inv bs g)
+
+pub extend-spec : {M : Type 1} → statement M
+extend-spec =
+    tie.close
+    (tie.spec
+    Inv-loop
+    μ-loop
+    loop-holds
+    ends-requires
+    array-write-next
+    add-to
+    loop-less
+    loop-again
+    returns)

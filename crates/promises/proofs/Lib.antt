@@ -1,0 +1,2 @@
+-- Claims == the demands and the table, proved
+pub mod Claims

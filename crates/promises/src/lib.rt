@@ -1,0 +1,1 @@
+// What is promised, in one place: specs/Claims.antt states the three demands, specs/Judged.antt the judged examples.
