@@ -1,0 +1,27 @@
+-- `intake::flushed` meets its contract: what is collected leaves room for a line, or nothing is left in the buffer. Assumes nothing.
+use mathlib.Core.Path.{sym}
+use lib.Seq.{length-take-le}
+use borrow.Author.Needs.{needs}
+use Rattle.intake.proofs.flushed.Statement.{statement}
+use Rattle.intake.proofs.flushed.Tie as tie
+
+sub-if1 : tie.Need-sub-if1
+sub-if1 c = search needs
+
+slice-aggregate-write-all : tie.Need-slice-aggregate-write-all
+slice-aggregate-write-all c =
+    let a = c .before .before .before .args in
+    sym (length-take-le (a .filled) (a .out .now) (c .before .before .before .pre .0))
+
+write-all-requires : tie.Need-write-all-requires
+write-all-requires c κs = search needs
+
+returns : tie.Need-returns
+returns c = search needs
+
+returns-2 : tie.Need-returns-2
+returns-2 c = search needs
+
+pub flushed-spec : {M : Type 1} → statement M
+flushed-spec =
+    tie.close (tie.spec sub-if1 slice-aggregate-write-all write-all-requires returns returns-2)

@@ -1,0 +1,46 @@
+-- How far the header and a turn go, for a caller that goes on from there. Assumes nothing.
+use mathlib.Core.Path.{_≡_, ap, _∙_}
+use mathlib.Core.Bool.{Bool, true, false}
+use mathlib.Core.List.{List}
+use Prim.Native.Nat.{ℕ, _+_, _≤_}
+use native.Mathlib.Omega.{arith}
+use lib.ListN.{length, drop, length-append, length-drop}
+use Rattle.intake_lines.specs.Output.{Turn}
+use Rattle.intake_lines.specs.Contract.{Wrote, Headed, refused, found, Turned, stopped, went}
+
+-- what was written is within the buffer, since that is as long as before
+wrote-within : (l before after : List ℕ) (wrote : ℕ) → length after ≡ length before → Wrote l before after wrote → wrote ≤ length before
+wrote-within l before after wrote same w =
+    let e = ap length (w .bytes) ∙ length-append l (drop (length l) before) in
+    let d = length-drop (length l) before in
+    let n = w .count in
+    omega arith
+
+not-both : (m : Bool) → m ≡ true → m ≡ false → ⊥
+not-both m p q = let z : _≡_ {A = ℕ} 0 1 = cc in omega arith
+
+module _ (s before after : List ℕ) (wrote next : ℕ) (more : Bool) where
+  pub headed-within : Headed s before after wrote next more → length after ≡ length before → wrote ≤ length before
+  headed-within (refused r q w n m) same = wrote-within _ before after wrote same w
+  headed-within (found q f i w m) same = wrote-within _ before after wrote same w
+
+  pub headed-from : Headed s before after wrote next more → more ≡ true → 3 ≤ next
+  headed-from (refused r q w n m) go = absurd (not-both more go m)
+  headed-from (found q f i w m) go = f
+
+  pub headed-to : Headed s before after wrote next more → more ≡ true → next ≤ length s
+  headed-to (refused r q w n m) go = absurd (not-both more go m)
+  headed-to (found q f i w m) go = i
+
+module _ (u : Turn) (input : List ℕ) (at : ℕ) (before after : List ℕ) (wrote next : ℕ) (more : Bool) where
+  pub turned-within : Turned u input at before after wrote next more → length after ≡ length before → wrote ≤ length before
+  turned-within (stopped l q w n m) same = wrote-within l before after wrote same w
+  turned-within (went l q w f i m) same = wrote-within l before after wrote same w
+
+  pub turned-from : Turned u input at before after wrote next more → more ≡ true → at + 2 ≤ next
+  turned-from (stopped l q w n m) go = absurd (not-both more go m)
+  turned-from (went l q w f i m) go = f
+
+  pub turned-to : Turned u input at before after wrote next more → more ≡ true → next ≤ length input
+  turned-to (stopped l q w n m) go = absurd (not-both more go m)
+  turned-to (went l q w f i m) go = i

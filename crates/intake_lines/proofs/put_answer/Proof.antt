@@ -1,0 +1,80 @@
+-- `intake_lines::put_answer` meets its contract: the witness is written on a match only. Assumes nothing.
+use mathlib.Core.Path.{sym}
+use native.Mathlib.Omega.{arith}
+use lib.ListN.{length, length-take}
+use lib.Seq.{length-take-le}
+use Rattle.intake_lines.proofs.Turns.{wrote-matched, wrote-other}
+use borrow.Author.Needs.{needs}
+use Rattle.intake_lines.proofs.put_answer.Statement.{statement}
+use Rattle.intake_lines.proofs.put_answer.Tie as tie
+
+slice-aggregate-match-list : tie.Need-slice-aggregate-match-list
+slice-aggregate-match-list c = search needs
+
+match-list-requires : tie.Need-match-list-requires
+match-list-requires c κs = search needs
+
+array-share-prefix-room : tie.Need-array-share-prefix-room
+array-share-prefix-room c = search needs
+
+slice-aggregate-put-line : tie.Need-slice-aggregate-put-line
+slice-aggregate-put-line c =
+    let at-match-list = c .before .before .before .before in
+    let start = at-match-list .before .before .before .before in
+    let k = at-match-list .match-list .kept .1 .1 .0 in sym (length-take-le (length (start .args .xs .now)) (at-match-list .match-list .last .1 .1 .0) (omega (arith, start .pre .count-short)))
+
+put-line-requires : tie.Need-put-line-requires
+put-line-requires c κs =
+    let at-match-list = c .before .before .before .before in
+    let start = at-match-list .before .before .before .before in
+    (record { number-short = start .pre .number-short; count-short = start .pre .count-short; room = start .pre .room }, omega (arith, length-take (length (start .args .xs .now)) (at-match-list .match-list .last .1 .1 .0), start .pre .count-short))
+
+same-length : tie.Need-same-length
+same-length c = search needs
+
+returns : tie.Need-returns
+returns c =
+    let at-put-line = c .before .before in
+    let at-if1 = at-put-line .before .before .before in
+    let at-match-list = at-if1 .before .before in
+    let start = at-match-list .before .before .before .before in
+    let a = start .args in
+    wrote-matched (a .template .now) (a .number) (a .xs .now) (at-match-list .match-list .last .1 .1 .0) (at-match-list .match-list .result) (at-match-list .match-list .ensures) (at-if1 .if1 .taken) _ _ _ (at-put-line .put-line .ensures)
+
+array-share-prefix-room-2 : tie.Need-array-share-prefix-room-2
+array-share-prefix-room-2 c = search needs
+
+slice-aggregate-put-line-2 : tie.Need-slice-aggregate-put-line-2
+slice-aggregate-put-line-2 c = search needs
+
+put-line-requires-2 : tie.Need-put-line-requires-2
+put-line-requires-2 c κs = search needs
+
+same-length-2 : tie.Need-same-length-2
+same-length-2 c = search needs
+
+returns-2 : tie.Need-returns-2
+returns-2 c =
+    let at-put-line2 = c .before .before in
+    let at-if1 = at-put-line2 .before .before .before in
+    let at-match-list = at-if1 .before .before in
+    let start = at-match-list .before .before .before .before in
+    let a = start .args in
+    wrote-other (a .template .now) (a .number) (a .xs .now) (at-match-list .match-list .last .1 .1 .0) (at-match-list .match-list .result) (at-match-list .match-list .ensures) (at-if1 .if1 .left) _ _ _ (at-put-line2 .put-line2 .ensures)
+
+pub put-answer-spec : {M : Type 1} → statement M
+put-answer-spec =
+    tie.close
+    (tie.spec
+    slice-aggregate-match-list
+    match-list-requires
+    array-share-prefix-room
+    slice-aggregate-put-line
+    put-line-requires
+    same-length
+    returns
+    array-share-prefix-room-2
+    slice-aggregate-put-line-2
+    put-line-requires-2
+    same-length-2
+    returns-2)

@@ -1,0 +1,59 @@
+-- What the functions say. A place is an index into the bytes; what stands there is `drop place bytes`.
+-- placed p bs o       == o with the bytes bs at the place p
+-- LineFits number count o <-> the number has at most five digits, the list at most 32 elements, and the buffer o 256 bytes: no line is longer
+-- Wrote l before after wrote <-> the bytes l were put in front of the lent buffer, and nothing else changed; `wrote` says how many
+-- Listed t o code n next xs <-> what was read as o: its fault `code`, never 0; or `code` 0, its n integers in front of xs, and
+--                        `next` the place after it
+-- RefusedBy s r       <-> r is the number for the whole input s: the refusal's, never 0; or 0 where the template is reached and accepted
+-- Headed s before after wrote next more <-> the refusal line of the whole input, and then `next` is 0 and `more` false; or nothing
+--                        was written, `more` is true, the template stands from 3 to `next`, and the lists from `next` on
+-- StepFits at number input o <-> `at` is a place of the input, the number has at most five digits, and the buffer o has 256 bytes
+-- Turned u input at before after wrote next more <-> the turn u at the place `at`: its bytes were written; `more` says whether there
+--                        is a next turn, and `next` its place, or `at` where there is none
+-- Assumes nothing: these are definitions.
+use mathlib.Core.Path.{_≡_}
+use mathlib.Core.Bool.{Bool, true, false}
+use mathlib.Core.List.{List, [], _∷_, _++_}
+use Prim.Native.Nat.{ℕ, _+_, _-_, _≤_, _<_}
+use lib.ListN.{length, take, drop}
+use lib.IntN.{ℤ}
+use Rattle.template.specs.Reading.{Read, refuse, got}
+use Rattle.intake_lines.specs.Line.{line}
+use Rattle.intake_lines.specs.Input.{templateIn, afterTemplate, reached}
+use Rattle.intake_lines.specs.Output.{Turn, stop, go}
+
+unfoldable pub placed : ℕ → List ℕ → List ℕ → List ℕ
+placed p bs o = take p o ++ (bs ++ drop (p + length bs) o)
+
+pub record LineFits (number count : ℕ) (o : List ℕ) : Type 0 where
+  pub number-short : number < 100000
+  pub count-short : count ≤ 32
+  pub room : 256 ≤ length o
+
+pub record Wrote (l before after : List ℕ) (wrote : ℕ) : Type 0 where
+  pub bytes : after ≡ l ++ drop (length l) before
+  pub count : wrote ≡ length l
+
+pub data Listed (t : List ℕ) (o : Read (List ℤ)) (code n next : ℕ) (xs : List ℤ) : Type 0 where
+  faulty : o ≡ refuse code → 0 < code → Listed t o code n next xs
+  read : o ≡ got (take n xs) (drop next t) → code ≡ 0 → n ≤ 32 → next ≤ length t → Listed t o code n next xs
+
+pub data RefusedBy (s : List ℕ) (r : ℕ) : Type 0 where
+  rejected : reached s ≡ refuse r → 0 < r → RefusedBy s r
+  accepted : reached s ≡ got (templateIn s) (drop (afterTemplate s) s) → r ≡ 0 → afterTemplate s ≤ length s → RefusedBy s r
+
+pub data Headed (s before after : List ℕ) (wrote next : ℕ) (more : Bool) : Type 0 where
+  refused : (r : ℕ) → reached s ≡ refuse r → Wrote (line 0 (r ∷ 0 ∷ [])) before after wrote → next ≡ 0 → more ≡ false
+      → Headed s before after wrote next more
+  found : reached s ≡ got (take (next - 3) (drop 3 s)) (drop next s) → 3 ≤ next → next ≤ length s → Wrote [] before after wrote → more ≡ true
+      → Headed s before after wrote next more
+
+pub record StepFits (at number : ℕ) (input o : List ℕ) : Type 0 where
+  pub inside : at ≤ length input
+  pub number-short : number < 100000
+  pub room : 256 ≤ length o
+
+pub data Turned (u : Turn) (input : List ℕ) (at : ℕ) (before after : List ℕ) (wrote next : ℕ) (more : Bool) : Type 0 where
+  stopped : (l : List ℕ) → u ≡ stop l → Wrote l before after wrote → next ≡ at → more ≡ false → Turned u input at before after wrote next more
+  went : (l : List ℕ) → u ≡ go l (drop next input) → Wrote l before after wrote → at + 2 ≤ next → next ≤ length input → more ≡ true
+      → Turned u input at before after wrote next more
