@@ -61,13 +61,13 @@ one-turn f t k s h = lines-same (length s) (suc f) t k s (omega arith) (omega ar
 
 -- ---- the claims
 
-pub step-is-last : StepIsLast
+pub stepIsLast : StepIsLast
 unfolding follow
-step-is-last t k s l e = one-turn (length s) t k s (omega arith) ∙ ap (λ (u : Turn). follow u (linesBy (length s) t (k + 1))) e
+stepIsLast t k s l e = one-turn (length s) t k s (omega arith) ∙ ap (λ (u : Turn). follow u (linesBy (length s) t (k + 1))) e
 
-pub step-then-rest : StepThenRest
+pub stepThenRest : StepThenRest
 unfolding follow linesFrom
-step-then-rest t k s l s′ e =
+stepThenRest t k s l s′ e =
     let h = turn-rest t k s l s′ e in
     one-turn (length s) t k s (omega arith)
     ∙ ap (λ (u : Turn). follow u (linesBy (length s) t (k + 1))) e
@@ -82,7 +82,7 @@ not-both e = let z : _≡_ {A = ℕ} 0 1 = cc in omega arith
 
 module _ (t input : List ℕ) (at k : ℕ) (before after : List ℕ) (wrote next : ℕ) where
   last-prints : Turned (turn t k (drop at input)) input at before after wrote next false → take wrote after ≡ linesFrom t k (drop at input)
-  last-prints (stopped l e w n m) = in-front l before after wrote w ∙ sym (step-is-last t k (drop at input) l e)
+  last-prints (stopped l e w n m) = in-front l before after wrote w ∙ sym (stepIsLast t k (drop at input) l e)
   last-prints (went l e w f i m) = absurd (not-both (sym m))
 
   then-prints : Turned (turn t k (drop at input)) input at before after wrote next true → (ls : List ℕ) → ls ≡ linesFrom t (k + 1) (drop next input)
@@ -91,7 +91,7 @@ module _ (t input : List ℕ) (at k : ℕ) (before after : List ℕ) (wrote next
   then-prints (went l e w f i m) ls q =
       ap (λ (b : List ℕ). b ++ ls) (in-front l before after wrote w)
       ∙ ap (λ (b : List ℕ). l ++ b) q
-      ∙ sym (step-then-rest t k (drop at input) l (drop next input) e)
+      ∙ sym (stepThenRest t k (drop at input) l (drop next input) e)
 
 pub steps-print : (t input : List ℕ) (at k : ℕ) (l : List ℕ) → Steps t input at k l → l ≡ linesFrom t k (drop at input)
 steps-print t input _ _ _ (last at k before after wrote next u) = last-prints t input at k before after wrote next u
@@ -109,7 +109,7 @@ unfolding output started
 header-found input before after wrote next (refused r e w n m) = absurd (not-both m)
 header-found input before after wrote next (found e f i w m) = sym (ap started e)
 
-pub output-printed : OutputPrinted
-output-printed input _ (onlyHeader before after wrote next h) = header-prints input before after wrote next h
-output-printed input _ (headerThen before after wrote next ls h s) =
+pub outputPrinted : OutputPrinted
+outputPrinted input _ (onlyHeader before after wrote next h) = header-prints input before after wrote next h
+outputPrinted input _ (headerThen before after wrote next ls h s) =
     steps-print (take (next - 3) (drop 3 input)) input next 1 ls s ∙ header-found input before after wrote next h
