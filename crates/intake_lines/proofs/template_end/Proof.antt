@@ -8,16 +8,16 @@ shared-slice-read-result : tie.Need-shared-slice-read-result
 shared-slice-read-result c = search needs
 
 cast-result : tie.Need-cast-result
-cast-result c = omega (arith, c .shared-slice-known .given 1)
+cast-result c = omega (arith, c .shared-slice-known .given 1, c .shared-slice-known .given 2)
 
 shared-slice-read-result-2 : tie.Need-shared-slice-read-result-2
 shared-slice-read-result-2 c = search needs
 
 cast-result-2 : tie.Need-cast-result-2
-cast-result-2 c = omega (arith, c .shared-slice-known2 .given 2)
+cast-result-2 c = omega (arith, c .shared-slice-known2 .given 1, c .shared-slice-known2 .given 2)
 
 mul-result : tie.Need-mul-result
-mul-result c = omega (arith, c .shared-slice-known2 .given 2)
+mul-result c = omega (arith, c .shared-slice-known2 .given 1, c .shared-slice-known2 .given 2)
 
 add-result : tie.Need-add-result
 add-result c = omega (arith, c .shared-slice-known2 .given 1, c .shared-slice-known2 .given 2)

@@ -1,0 +1,114 @@
+use mathlib.Core.Path.{sym}
+use lib.Seq.{length-take-le}
+use borrow.Author.Needs.{needs}
+use Rattle.ask.proofs.request.answer_match.Statement.{statement}
+use Rattle.ask.proofs.request.answer_match.Tie as tie
+
+counts-with-list-requires : tie.Need-counts-with-list-requires
+counts-with-list-requires c κs = search needs
+
+add-template-end : tie.Need-add-template-end
+add-template-end c = search needs
+
+add-list-at : tie.Need-add-list-at
+add-list-at c = search needs
+
+mul-list-end : tie.Need-mul-list-end
+mul-list-end c = search needs
+
+add-list-end : tie.Need-add-list-end
+add-list-end c = search needs
+
+add-taken : tie.Need-add-taken
+add-taken c = search needs
+
+bad-requires : tie.Need-bad-requires
+bad-requires c κs = search needs
+
+same-length : tie.Need-same-length
+same-length c = search needs
+
+returns : tie.Need-returns
+returns c = search needs
+
+bad-requires-2 : tie.Need-bad-requires-2
+bad-requires-2 c κs = search needs
+
+same-length-2 : tie.Need-same-length-2
+same-length-2 c = search needs
+
+returns-2 : tie.Need-returns-2
+returns-2 c = search needs
+
+sub-integers : tie.Need-sub-integers
+sub-integers c = search needs
+
+part-integers-start : tie.Need-part-integers-start
+part-integers-start c = search needs
+
+part-integers-end : tie.Need-part-integers-end
+part-integers-end c = search needs
+
+integers-requires : tie.Need-integers-requires
+integers-requires c κs = search needs
+
+sub-put-match : tie.Need-sub-put-match
+sub-put-match c = search needs
+
+part-put-match-start : tie.Need-part-put-match-start
+part-put-match-start c = search needs
+
+part-put-match-end : tie.Need-part-put-match-end
+part-put-match-end c = search needs
+
+array-share-prefix-list : tie.Need-array-share-prefix-list
+array-share-prefix-list c = search needs
+
+slice-aggregate-put-match : tie.Need-slice-aggregate-put-match
+slice-aggregate-put-match c = sym (length-take-le _ _ (search needs))
+
+array-borrow-prefix-room : tie.Need-array-borrow-prefix-room
+array-borrow-prefix-room c = search needs
+
+slice-aggregate-put-match-2 : tie.Need-slice-aggregate-put-match-2
+slice-aggregate-put-match-2 c = sym (length-take-le _ _ (search needs))
+
+put-match-requires : tie.Need-put-match-requires
+put-match-requires c κs = search needs
+
+same-length-3 : tie.Need-same-length-3
+same-length-3 c = search needs
+
+returns-3 : tie.Need-returns-3
+returns-3 c = search needs
+
+pub answer-match-spec : {M : Type 1} → statement M
+answer-match-spec =
+    tie.close
+    (tie.spec
+    counts-with-list-requires
+    add-template-end
+    add-list-at
+    mul-list-end
+    add-list-end
+    add-taken
+    bad-requires
+    same-length
+    returns
+    bad-requires-2
+    same-length-2
+    returns-2
+    sub-integers
+    part-integers-start
+    part-integers-end
+    integers-requires
+    sub-put-match
+    part-put-match-start
+    part-put-match-end
+    array-share-prefix-list
+    slice-aggregate-put-match
+    array-borrow-prefix-room
+    slice-aggregate-put-match-2
+    put-match-requires
+    same-length-3
+    returns-3)

@@ -1,0 +1,23 @@
+-- `write_out` is safe and ends: what is lent lies within the buffer, by the test. Assumes nothing.
+use mathlib.Core.Path.{sym}
+use native.Mathlib.Omega.{arith}
+use borrow.Author.Needs.{needs}
+use lib.Seq.{length-take-le}
+use Rattle.ask.proofs.text.write_out.Statement.{statement}
+use Rattle.ask.proofs.text.write_out.Tie as tie
+
+slice-aggregate-write-all : tie.Need-slice-aggregate-write-all
+slice-aggregate-write-all c = sym (length-take-le _ _ (omega arith))
+
+write-all-requires : tie.Need-write-all-requires
+write-all-requires c κs = search needs
+
+returns : tie.Need-returns
+returns c = search needs
+
+returns-2 : tie.Need-returns-2
+returns-2 c = search needs
+
+pub write-out-spec : {M : Type 1} → statement M
+write-out-spec =
+    tie.close (tie.spec slice-aggregate-write-all write-all-requires returns returns-2)
