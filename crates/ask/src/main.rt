@@ -31,42 +31,32 @@ struct Progress {
     is_bad: bool,
 }
 
+fn stopped(at: usize, filled: usize, is_bad: bool) -> Progress {
+    Progress { at, filled, is_bad }
+}
+
 // Answers the requests of `input` one after the other. A rest of fewer than `least` bytes waits.
 fn answer_all(input: &[u8], least: usize, output: &mut [u8], waiting: usize) -> Progress {
     let mut at: usize = 0;
     let mut filled = waiting;
     while at < input.len() {
-        if input.len() - at < least {
-            return Progress {
-                at,
-                filled,
-                is_bad: false,
-            };
+        let rest = input.len() - at;
+        if rest < least {
+            return stopped(at, filled, false);
         }
         let reply = request::answer(&input[at..], output, filled);
         filled = reply.filled;
         let taken = reply.taken;
         if taken == 0 {
-            return Progress {
-                at,
-                filled,
-                is_bad: true,
-            };
+            return stopped(at, filled, true);
         }
-        if input.len() - at < taken {
-            return Progress {
-                at,
-                filled,
-                is_bad: true,
-            };
+        // no request takes more than there is
+        if rest < taken {
+            return stopped(at, filled, true);
         }
         at += taken;
     }
-    Progress {
-        at,
-        filled,
-        is_bad: false,
-    }
+    stopped(at, filled, false)
 }
 
 // Moves the bytes from `from` to `end` to the front, and gives back how many they are.
@@ -85,7 +75,8 @@ fn move_to_front(buffer: &mut [u8], from: usize, end: usize) -> usize {
 }
 
 // Fills the input's buffer behind the kept bytes and answers the requests there. Where more may follow, only a rest
-// as long as the longest request is sure to begin with a whole one.
+// as long as the longest request is sure to begin with a whole one. The kept bytes are always fewer than those of the
+// buffer: the first test only says so to the proof.
 fn take_block(input: &mut [u8], output: &mut [u8], stand: Stand) -> Stand {
     let kept = stand.kept;
     if input.len() < kept {

@@ -4,21 +4,25 @@ use matcher::judge;
 use matcher::match_list;
 use normal::normalise;
 use words::int_at;
-ghost use Prim.Native.Nat.{_+_, _*_, _≤_};
+ghost use Prim.Native.Nat.{_≤_};
 ghost use mathlib.Core.Path.{_≡_};
 ghost use lib.ListN.{length};
 
+// The first byte of a request says its kind.
 const MATCH: u8 = 1;
 
 const JUDGE: u8 = 2;
 
 const NORMALISE: u8 = 3;
 
+// The bounds of the counts.
 const TEMPLATE_MOST: usize = 5000;
 
 const LIST_MOST: usize = 64;
 
+// Of the bytes of a room, and of a witness.
 const ROOM_MOST: usize = 1024;
+
 // Stands for a count whose bytes are missing: it is over every bound.
 const MISSING: usize = 65536;
 
@@ -51,6 +55,7 @@ fn bad(out: &mut [u8], at: usize) -> Reply {
     Reply { taken: 0, filled }
 }
 
+// A u16 from its bytes.
 fn join(low: u8, high: u8) -> usize {
     low as usize + 256 * (high as usize)
 }
@@ -154,6 +159,7 @@ fn put_normal_form(out: &mut [u8], at: usize, template: &[u8], room: &mut [u8]) 
     put_room(out, behind_length, room)
 }
 
+// In the answers below the test of the length says that all parts lie within `s`.
 fn answer_match(s: &[u8], out: &mut [u8], at: usize) -> Reply {
     let counts = counts_with_list(s);
     let template_end = 3 + counts.template;

@@ -17,10 +17,13 @@ const LIST_MOST: usize = 40;
 
 const ROOM_MOST: usize = 600;
 
+const LONGEST_FORM: usize = 578;
+
 fn widened(small: u8) -> i32 {
     small as i32
 }
 
+// The integers of a list, at the front of the array.
 fn integers(small: &[u8]) -> [i32; 40]
     ensures { λ r. ⌜ 40 ≡ length r ⌝ }
 {
@@ -157,4 +160,9 @@ pub fn normalised(
     let mut room = [UNTOUCHED; 600];
     let is_same = normalised_in(&mut room[..size], name, template, number, form);
     noted(tally, name, is_same)
+}
+
+// An element template that is accepted, in a room for every form.
+pub fn formed(tally: Tally, name: &[u8], template: &[u8], form: &[u8]) -> Tally {
+    normalised(tally, name, template, LONGEST_FORM, DONE, form)
 }

@@ -1,10 +1,11 @@
-use Prim.Native.Nat.{ℕ, _≤_, _<_, _+_, _*_, _-_}
+-- `answer_all` is safe and ends. The invariant: `at` lies within the input, and the output keeps its length. The measure is the bytes that are left: a request takes one or more. Assumes nothing.
+use Prim.Native.Nat.{_≤_, _-_}
 use mathlib.Core.Path.{_≡_}
 use native.Mathlib.Omega.{arith}
 use borrow.Author.Needs.{needs}
 use lib.ListN.{length}
-use Rattle.ask.proofs.answer_all.Statement.{statement}
 use Rattle.ask.proofs.answer_all.Tie as tie
+use Rattle.ask.proofs.answer_all.Statement.{statement}
 
 abbrev Inv-loop : tie.InvT-loop
 Inv-loop input least output₀ waiting at₀ filled₀ output at filled = (at ≤ length input) × (length output ≡ length output₀)
@@ -15,8 +16,11 @@ abbrev μ-loop : tie.MeasureT-loop
 loop-holds : tie.Need-loop-holds Inv-loop μ-loop
 loop-holds c = search needs
 
-sub-if1 : tie.Need-sub-if1 Inv-loop μ-loop
-sub-if1 c = omega arith
+sub-rest : tie.Need-sub-rest Inv-loop μ-loop
+sub-rest c = omega arith
+
+stopped-requires : tie.Need-stopped-requires Inv-loop μ-loop
+stopped-requires c κs = search needs
 
 same-length : tie.Need-same-length Inv-loop μ-loop
 same-length c = search needs
@@ -36,14 +40,17 @@ part-answer-end c = omega arith
 answer-requires : tie.Need-answer-requires Inv-loop μ-loop
 answer-requires c κs = search needs
 
+stopped-requires-2 : tie.Need-stopped-requires-2 Inv-loop μ-loop
+stopped-requires-2 c κs = search needs
+
 same-length-2 : tie.Need-same-length-2 Inv-loop μ-loop
 same-length-2 c = search needs
 
 returns-2 : tie.Need-returns-2 Inv-loop μ-loop
 returns-2 c = search needs
 
-sub-if3 : tie.Need-sub-if3 Inv-loop μ-loop
-sub-if3 c = omega arith
+stopped-requires-3 : tie.Need-stopped-requires-3 Inv-loop μ-loop
+stopped-requires-3 c κs = search needs
 
 same-length-3 : tie.Need-same-length-3 Inv-loop μ-loop
 same-length-3 c = search needs
@@ -60,6 +67,9 @@ loop-less c = omega arith
 loop-again : tie.Need-loop-again Inv-loop μ-loop
 loop-again c = search needs
 
+stopped-requires-4 : tie.Need-stopped-requires-4 Inv-loop μ-loop
+stopped-requires-4 c κs = search needs
+
 same-length-4 : tie.Need-same-length-4 Inv-loop μ-loop
 same-length-4 c = search needs
 
@@ -73,20 +83,23 @@ answer-all-spec =
     Inv-loop
     μ-loop
     loop-holds
-    sub-if1
+    sub-rest
+    stopped-requires
     same-length
     returns
     sub-answer
     part-answer-start
     part-answer-end
     answer-requires
+    stopped-requires-2
     same-length-2
     returns-2
-    sub-if3
+    stopped-requires-3
     same-length-3
     returns-3
     add-at
     loop-less
     loop-again
+    stopped-requires-4
     same-length-4
     returns-4)

@@ -1,10 +1,10 @@
-use Prim.Native.Nat.{ℕ, _≤_, _<_, _+_, _*_, _-_}
+-- `main` is safe and ends. The invariant: both buffers keep their length. The measure is the turns that are left. Assumes nothing.
 use mathlib.Core.Path.{_≡_}
 use native.Mathlib.Omega.{arith}
 use borrow.Author.Needs.{needs}
 use lib.ListN.{length}
-use Rattle.ask.proofs.main.Statement.{statement}
 use Rattle.ask.proofs.main.Tie as tie
+use Rattle.ask.proofs.main.Statement.{statement}
 
 abbrev Inv-loop : tie.InvT-loop
 Inv-loop input₀ output₀ stand₀ turns₀ input output stand turns = (65536 ≡ length input) × (65536 ≡ length output)

@@ -1,4 +1,5 @@
-use Prim.Native.Nat.{ℕ, _≤_, _<_, _+_, _*_, _-_}
+-- `move_to_front` is safe and ends. The invariant: a byte is never moved back, the buffer keeps its length, and `end` lies within it. The measure is the bytes that are left. Assumes nothing.
+use Prim.Native.Nat.{_≤_, _-_}
 use mathlib.Core.Path.{_≡_}
 use native.Mathlib.Omega.{arith}
 use borrow.Author.Needs.{needs}

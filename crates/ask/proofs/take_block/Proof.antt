@@ -1,6 +1,7 @@
+-- `take_block` is safe and ends. What is read lies within the part that is lent to it, behind the kept bytes. Assumes nothing.
 use mathlib.Core.Path.{sym}
-use lib.Seq.{length-take-le}
 use borrow.Author.Needs.{needs}
+use lib.Seq.{length-take-le}
 use Rattle.ask.proofs.take_block.Statement.{statement}
 use Rattle.ask.proofs.take_block.Tie as tie
 

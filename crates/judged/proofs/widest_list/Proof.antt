@@ -1,10 +1,11 @@
-use Prim.Native.Nat.{ℕ, _≤_, _<_, _+_, _*_, _-_}
+-- `widest_list` is safe and ends. The invariant: `place` is at most 64, and the array keeps its length. The measure is the places that are left. Assumes nothing.
+use Prim.Native.Nat.{_≤_, _-_}
 use mathlib.Core.Path.{_≡_}
 use native.Mathlib.Omega.{arith}
 use borrow.Author.Needs.{needs}
 use lib.ListN.{length}
-use Rattle.judged.proofs.widest_list.Statement.{statement}
 use Rattle.judged.proofs.widest_list.Tie as tie
+use Rattle.judged.proofs.widest_list.Statement.{statement}
 
 abbrev Inv-loop : tie.InvT-loop
 Inv-loop ascends template₀ place₀ template place = (place ≤ 64) × (578 ≡ length template)

@@ -1,6 +1,7 @@
+-- `answer_judge` is safe and ends. The parts that are lent lie within the request, by the test of its length; the list is as long as its array allows. Assumes nothing.
 use mathlib.Core.Path.{sym}
-use lib.Seq.{length-take-le}
 use borrow.Author.Needs.{needs}
+use lib.Seq.{length-take-le}
 use Rattle.ask.proofs.request.answer_judge.Statement.{statement}
 use Rattle.ask.proofs.request.answer_judge.Tie as tie
 

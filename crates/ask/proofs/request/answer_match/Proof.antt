@@ -1,6 +1,7 @@
+-- `answer_match` is safe and ends. The parts that are lent lie within the request, by the test of its length; list and room are as long as their arrays allow. Assumes nothing.
 use mathlib.Core.Path.{sym}
-use lib.Seq.{length-take-le}
 use borrow.Author.Needs.{needs}
+use lib.Seq.{length-take-le}
 use Rattle.ask.proofs.request.answer_match.Statement.{statement}
 use Rattle.ask.proofs.request.answer_match.Tie as tie
 

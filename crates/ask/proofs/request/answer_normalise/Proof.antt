@@ -1,6 +1,7 @@
+-- `answer_normalise` is safe and ends. The template that is lent lies within the request, by the test of its length; the room is as long as its array allows. Assumes nothing.
 use mathlib.Core.Path.{sym}
-use lib.Seq.{length-take-le}
 use borrow.Author.Needs.{needs}
+use lib.Seq.{length-take-le}
 use Rattle.ask.proofs.request.answer_normalise.Statement.{statement}
 use Rattle.ask.proofs.request.answer_normalise.Tie as tie
 

@@ -1,10 +1,11 @@
-use Prim.Native.Nat.{ℕ, _≤_, _<_, _+_, _*_, _-_}
+-- `put_hex` is safe and ends. The invariant: `i` is at most the length, and the buffer keeps its own. The measure is the bytes that are left. Assumes nothing.
+use Prim.Native.Nat.{_≤_, _-_}
 use mathlib.Core.Path.{_≡_}
 use native.Mathlib.Omega.{arith}
 use borrow.Author.Needs.{needs}
 use lib.ListN.{length}
-use Rattle.ask.proofs.text.put_hex.Statement.{statement}
 use Rattle.ask.proofs.text.put_hex.Tie as tie
+use Rattle.ask.proofs.text.put_hex.Statement.{statement}
 
 abbrev Inv-loop : tie.InvT-loop
 Inv-loop out₀ at bytes filled₀ i₀ out filled i = (i ≤ length bytes) × (length out ≡ length out₀)

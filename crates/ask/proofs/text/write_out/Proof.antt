@@ -1,4 +1,4 @@
--- `write_out` is safe and ends: what is lent lies within the buffer, by the test. Assumes nothing.
+-- `write_out` is safe and ends. What is lent lies within the buffer, by the test. Assumes nothing.
 use mathlib.Core.Path.{sym}
 use native.Mathlib.Omega.{arith}
 use borrow.Author.Needs.{needs}

@@ -1,10 +1,10 @@
-use Prim.Native.Nat.{ℕ, _≤_, _<_, _+_, _*_, _-_}
-use mathlib.Core.Path.{_≡_}
+-- `holds` is safe and ends. The invariant: `i` lies within the room. The measure is the bytes that are left. Assumes nothing.
+use Prim.Native.Nat.{_≤_, _-_}
 use native.Mathlib.Omega.{arith}
 use borrow.Author.Needs.{needs}
 use lib.ListN.{length}
-use Rattle.judged.proofs.example.holds.Statement.{statement}
 use Rattle.judged.proofs.example.holds.Tie as tie
+use Rattle.judged.proofs.example.holds.Statement.{statement}
 
 abbrev Inv-loop : tie.InvT-loop
 Inv-loop room front i₀ i = i ≤ length room

@@ -1,10 +1,11 @@
-use Prim.Native.Nat.{ℕ, _≤_, _<_, _+_, _*_, _-_}
+-- `integers` is safe and ends. The invariant: `i` is at most 40, and the array keeps its length. The measure is the places that are left. Assumes nothing.
+use Prim.Native.Nat.{_≤_, _-_}
 use mathlib.Core.Path.{_≡_}
 use native.Mathlib.Omega.{arith}
 use borrow.Author.Needs.{needs}
 use lib.ListN.{length}
-use Rattle.judged.proofs.example.integers.Statement.{statement}
 use Rattle.judged.proofs.example.integers.Tie as tie
+use Rattle.judged.proofs.example.integers.Statement.{statement}
 
 abbrev Inv-loop : tie.InvT-loop
 Inv-loop small list₀ i₀ list i = (i ≤ 40) × (length list ≡ 40)

@@ -1,8 +1,9 @@
+-- `matched` is safe and ends. The list that is lent is no longer than its array, by the test. Assumes nothing.
 use mathlib.Core.Path.{sym}
-use lib.Seq.{length-take-le}
 use borrow.Author.Needs.{needs}
-use Rattle.judged.proofs.example.matched.Statement.{statement}
+use lib.Seq.{length-take-le}
 use Rattle.judged.proofs.example.matched.Tie as tie
+use Rattle.judged.proofs.example.matched.Statement.{statement}
 
 noted-requires : tie.Need-noted-requires
 noted-requires c κs = search needs

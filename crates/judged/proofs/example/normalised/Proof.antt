@@ -1,6 +1,7 @@
+-- `normalised` is safe and ends. The room that is lent is no longer than its array, by the test. Assumes nothing.
 use mathlib.Core.Path.{sym}
-use lib.Seq.{length-take-le}
 use borrow.Author.Needs.{needs}
+use lib.Seq.{length-take-le}
 use Rattle.judged.proofs.example.normalised.Statement.{statement}
 use Rattle.judged.proofs.example.normalised.Tie as tie
 

@@ -1,8 +1,9 @@
+-- `first_hex` is safe and ends. What is lent lies within the bytes, by the test. Assumes nothing.
 use mathlib.Core.Path.{sym}
-use lib.Seq.{length-take-le}
 use borrow.Author.Needs.{needs}
-use Rattle.judged.proofs.print.first_hex.Statement.{statement}
+use lib.Seq.{length-take-le}
 use Rattle.judged.proofs.print.first_hex.Tie as tie
+use Rattle.judged.proofs.print.first_hex.Statement.{statement}
 
 slice-aggregate-hex : tie.Need-slice-aggregate-hex
 slice-aggregate-hex c = sym (length-take-le _ _ (search needs))

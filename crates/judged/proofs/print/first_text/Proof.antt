@@ -1,6 +1,7 @@
+-- `first_text` is safe and ends. What is lent lies within the bytes, by the test. Assumes nothing.
 use mathlib.Core.Path.{sym}
-use lib.Seq.{length-take-le}
 use borrow.Author.Needs.{needs}
+use lib.Seq.{length-take-le}
 use Rattle.judged.proofs.print.first_text.Statement.{statement}
 use Rattle.judged.proofs.print.first_text.Tie as tie
 

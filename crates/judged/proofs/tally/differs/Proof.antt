@@ -1,10 +1,9 @@
-use Prim.Native.Nat.{ℕ, _≤_, _<_, _+_, _*_, _-_}
-use mathlib.Core.Path.{_≡_}
+-- `differs` is safe and ends. The invariant: at most 40 bytes are kept. The measure is the places that are left. Assumes nothing.
+use Prim.Native.Nat.{_≤_, _-_}
 use native.Mathlib.Omega.{arith}
 use borrow.Author.Needs.{needs}
-use lib.ListN.{length}
-use Rattle.judged.proofs.tally.differs.Statement.{statement}
 use Rattle.judged.proofs.tally.differs.Tie as tie
+use Rattle.judged.proofs.tally.differs.Statement.{statement}
 
 abbrev Inv-loop : tie.InvT-loop
 Inv-loop name kept₀ count₀ kept count = count ≤ 40
