@@ -10,7 +10,7 @@ use lib.Seq.{getD-take, ext-getD}
 use Rattle.assign.specs.Order.{earlier}
 use Rattle.assign.proofs.Lemmas.{below?, holds?, clash, not-so}
 use Rattle.assign.proofs.Laws.{first-unique}
-use Rattle.cuts.specs.declared.Block.{Block}
+use Rattle.blocks.specs.declared.Block.{Block}
 use Rattle.cuts.specs.Cut.{Cuts, Fills, Best, Cutting, Filling, Passing}
 use Rattle.cuts.specs.Claims.{UniqueCut, UniqueFilling, CutPasses, CutFound, FillingPasses, FillingFound}
 

@@ -15,7 +15,7 @@ use Rattle.assign.proofs.Laws.{earlier-irreflexive, first-same, first-joins, no
 use Rattle.assign.proofs.Pieces.{slice-at}
 use Rattle.assign.proofs.Groups.{takes-spare, takes-member}
 use Rattle.assign.proofs.Groups.{takes-inv}
-use Rattle.cuts.specs.declared.Block.{Block}
+use Rattle.blocks.specs.declared.Block.{Block}
 use Rattle.cuts.specs.declared.Suffix.{Suffix}
 use Rattle.cuts.specs.Cut.{Takes}
 use Rattle.cuts.specs.Table.{Given, Spliced, Kept, without, alone, later, sooner, Single, fits, fails}

@@ -14,7 +14,7 @@ use Rattle.assign.specs.Assignment.{Assigns}
 use Rattle.assign.proofs.Laws.{none-joins-right}
 use Rattle.assign.proofs.Groups.{takes-spare}
 use Rattle.assign.proofs.Lemmas.{same?, holds?, clash, not-so, between-to}
-use Rattle.cuts.specs.declared.Block.{Block}
+use Rattle.blocks.specs.declared.Block.{Block}
 use Rattle.cuts.specs.declared.Suffix.{Suffix}
 use Rattle.cuts.specs.Cut.{Takes, CutAt, Cuts, Inside, Best, Cutting}
 use Rattle.cuts.specs.Table.{Given, nothing, beyond, Tabled, Kept, alone, CutBefore}

@@ -18,7 +18,7 @@ use lib.ListN.{length, getD, take, replicate}
 use Rattle.assign.specs.Order.{First, Joins}
 use Rattle.assign.specs.Rows.{may, cnt}
 use Rattle.assign.specs.Assignment.{Assigns}
-use Rattle.cuts.specs.declared.Block.{Block}
+use Rattle.blocks.specs.declared.Block.{Block}
 
 pub record Takes (rows : List ℕ) (b : Block) (from to : ℕ) (p : List ℕ) : Type 0 where
   pub assigned : Assigns rows (b .first) (b .k) from to p

@@ -5,14 +5,14 @@ ghost use mathlib.Core.List.{List};
 ghost use Prim.Native.Nat.{ℕ, _+_, _-_, _≤_, _<_};
 ghost use lib.Seq.{slice};
 ghost use Rattle.assign.specs.Order.{earlier, Joins};
-ghost use Rattle.cuts.specs.declared.Block.{Block as BlockOf};
+ghost use Rattle.blocks.specs.declared.Block.{Block as BlockOf};
 ghost use Rattle.cuts.specs.Cut.{Takes, Cuts};
 ghost use Rattle.cuts.specs.Table.{Given, Spliced, Kept, Single};
-use crate::Block;
 use crate::SPARE;
 use crate::Suffix;
 use assign::first_assignment;
 use assign::mask::has;
+use blocks::Block;
 
 // Whether a comes before b in byte order, by the places from .. to - 1.
 pub fn comes_before(a: [u8; 32], b: [u8; 32], from: usize, to: usize) -> bool

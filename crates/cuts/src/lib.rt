@@ -4,6 +4,7 @@ ghost use lib.ListN.{take};
 ghost use Rattle.cuts.specs.Cut.{Inside, Cutting, Filling};
 use assign::Found;
 use assign::first_assignment;
+use blocks::Block;
 use joins::splice;
 
 mod joins; // lists at their places in 32 bytes: joined, and the lesser of two
@@ -12,14 +13,6 @@ mod table; // for each place what the blocks so far take from there on
 
 // The byte of an element that no member has.
 const SPARE: u8 = 255;
-
-// The members first .. first + k - 1, each to be assigned once, and min to max spare elements.
-pub struct Block {
-    pub first: u8,
-    pub k: u8,
-    pub min: u8,
-    pub max: u8,
-}
 
 // Whether there is a list, and the byte of each element; all else is spare.
 pub struct Suffix {

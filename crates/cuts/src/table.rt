@@ -2,14 +2,14 @@
 ghost use mathlib.Core.Path.{_≡_};
 ghost use mathlib.Core.List.{List, [], _∷_};
 ghost use Prim.Native.Nat.{ℕ, _+_, _≤_, min};
-ghost use Rattle.cuts.specs.declared.Block.{Block as BlockOf};
+ghost use Rattle.blocks.specs.declared.Block.{Block as BlockOf};
 ghost use Rattle.cuts.specs.Cut.{Cuts};
 ghost use Rattle.cuts.specs.Table.{Given, Tabled};
-use crate::Block;
 use crate::SPARE;
 use crate::Suffix;
 use crate::joins::joined;
 use crate::joins::keep;
+use blocks::Block;
 
 // No blocks: they take nothing, which is what is left at n.
 pub fn last(n: usize) -> [Suffix; 33]

@@ -232,7 +232,7 @@ module _ (m k : ℕ) (low : m + k ≤ 255) (p : List ℕ) (within : Within m k p
   star-test (star min max) a b = both (leb min (cnt spare p)) (leb (cnt spare p) max) (le-leb min (cnt spare p) (omega (arith, size))) (le-leb (cnt spare p) max (omega (arith, size)))
 
 -- the block b, taken apart
-abbrev pub PieceOf : Rattle.cuts.specs.declared.Block.Block → List ℕ → Type 0
+abbrev pub PieceOf : Rattle.blocks.specs.declared.Block.Block → List ℕ → Type 0
 PieceOf b p = Piece (b .first) (b .k) (b .min) (b .max) p
 
 module _ (m : ℕ) where

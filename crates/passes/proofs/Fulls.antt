@@ -12,7 +12,7 @@ use Rattle.assign.specs.Assignment.{takes}
 use Rattle.assign.proofs.Lemmas.{same?, holds?, between-in, between-to, hit}
 use Rattle.assign.proofs.Counting.{cnt-append}
 use Rattle.assign.proofs.Groups.{takes-inv}
-use Rattle.cuts.specs.declared.Block.{Block}
+use Rattle.blocks.specs.declared.Block.{Block}
 use Rattle.cuts.specs.Cut.{Fills, Passing}
 use Rattle.cuts.proofs.Laws.{passing-true, passing-false}
 use Rattle.passes.specs.Reach.{Fresh, Good}

@@ -11,7 +11,7 @@ use lib.Seq.{slice, take-suc, take-take, take-at, drop-at, take-length, getD-set
 use Rattle.assign.specs.Order.{Joins}
 use Rattle.assign.specs.Assignment.{Assigns}
 use Rattle.assign.proofs.Lemmas.{same?, below?, holds?, clash}
-use Rattle.cuts.specs.declared.Block.{Block}
+use Rattle.blocks.specs.declared.Block.{Block}
 use Rattle.cuts.specs.Cut.{Takes, Cuts, Inside, Passing}
 use Rattle.passes.specs.Reach.{Reached}
 use Rattle.cuts.proofs.Laws.{passing-true, passing-false, cuts-length, cuts-snoc, Ended, cuts-unsnoc}

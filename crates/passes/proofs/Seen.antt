@@ -17,7 +17,7 @@ use Rattle.assign.proofs.Masks.{bit-none}
 use Rattle.assign.proofs.Groups.{takes-inv}
 use Rattle.assign.proofs.Pieces.{slice-at}
 use Rattle.assign.proofs.Groups.{takes-spare, takes-member}
-use Rattle.cuts.specs.declared.Block.{Block}
+use Rattle.blocks.specs.declared.Block.{Block}
 use Rattle.cuts.specs.Cut.{Passing}
 use Rattle.passes.specs.Reach.{Fresh, Good, Sees, Whole}
 use Rattle.cuts.proofs.Laws.{passing-true, passing-false, slice-split}

@@ -13,7 +13,7 @@ use lib.ListN.{length, getD, take}
 use lib.Seq.{slice}
 use Rattle.assign.specs.Rows.{bit, may, between, oneIf, cnt}
 use Rattle.assign.specs.Assignment.{takes, Assigns}
-use Rattle.cuts.specs.declared.Block.{Block}
+use Rattle.blocks.specs.declared.Block.{Block}
 use Rattle.cuts.specs.Cut.{Cuts, Passing}
 
 pub record Reached (rows : List ℕ) (bs : List Block) (w : List ℕ) (reach : List Bool) : Type 0 where

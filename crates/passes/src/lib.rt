@@ -3,7 +3,7 @@ ghost use Prim.Native.Nat.{_≤_};
 ghost use lib.ListN.{take, length};
 ghost use Rattle.cuts.specs.Cut.{Inside, Cuts, Fills, Passing};
 use assign::mask::with;
-use cuts::Block;
+use blocks::Block;
 use reach::fresh;
 
 mod reach; // the places of an offered list that the blocks so far reach

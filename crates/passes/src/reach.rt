@@ -5,13 +5,13 @@ ghost use Prim.Native.Nat.{ℕ, _+_, _-_, _≤_, _<_};
 ghost use lib.ListN.{length, take};
 ghost use lib.Seq.{slice};
 ghost use Rattle.assign.specs.Assignment.{Assigns};
-ghost use Rattle.cuts.specs.declared.Block.{Block as BlockOf};
+ghost use Rattle.blocks.specs.declared.Block.{Block as BlockOf};
 ghost use Rattle.cuts.specs.Cut.{Cuts, Passing};
 ghost use Rattle.passes.specs.Reach.{Reached, Fresh, Sees, Whole};
 use crate::SPARE;
 use assign::mask::has;
 use assign::mask::with;
-use cuts::Block;
+use blocks::Block;
 
 // Whether the bytes of a piece are right with no member twice, and the members that stand there.
 pub struct Seen {

@@ -15,7 +15,7 @@ use Rattle.template.specs.Leaf.{Leaf, leafHead}
 use Rattle.template.specs.Reading.{Read, refuse, got}
 use Rattle.template.specs.Whole.{members, items, bodyHere, templateHere, readTemplate}
 use Rattle.template.specs.Contract.{Answered, rejected, accepted}
-use Rattle.cuts.specs.declared.Block.{Block}
+use Rattle.blocks.specs.declared.Block.{Block}
 use Rattle.plan.specs.Blocks.{minOf, maxOf, block, blockOfGroup, blocksOfItems, blocksOf, isSubset, lowOf, highOf, Standing}
 use Rattle.plan.specs.Contract.{Planned, PlanOf, noPlan, aPlan}
 use Rattle.plan.specs.Places.{GroupHere, GroupWalked, ItemsHere, ItemsPlan, groupBody, GroupPlan, BodyHere, BodyPlan}

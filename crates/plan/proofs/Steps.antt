@@ -12,7 +12,7 @@ use Rattle.template.specs.Leaf.{Leaf, leafHead}
 use Rattle.template.specs.Reading.{got, counted, outermost}
 use Rattle.template.specs.Whole.{members, item, items}
 use Rattle.template.specs.Contract.{ElementHere, EndAt}
-use Rattle.cuts.specs.declared.Block.{Block}
+use Rattle.blocks.specs.declared.Block.{Block}
 use Rattle.plan.specs.Blocks.{minOf, maxOf, block, blockOfGroup, blockOfItem, blocksOfItems, StandsAt, Standing}
 use Rattle.plan.specs.Places.{GroupHere, GroupWalked, ItemHere, ItemWalked, ItemsHere}
 use Rattle.plan.proofs.Parts.{MemberAt, GroupStep, aStar, aMember, group-inv, group-none, ItemAt, starAt, permutationAt, memberAt, item-inv, ItemsStep, items-inv, items-none}

@@ -19,7 +19,7 @@ use Rattle.template.specs.Element.{Elem}
 use Rattle.template.specs.Template.{Star, noStar, star, Group, grouped, Item, one, spares, permutation, Body, recordOf, setOf, superset, subset, Length, anyLength, between, membersOfItem}
 use Rattle.template.specs.Leaf.{Leaf, leafHead}
 use Rattle.template.specs.Reading.{got, counted, outermost}
-use Rattle.cuts.specs.declared.Block.{Block}
+use Rattle.blocks.specs.declared.Block.{Block}
 
 abbrev pub minOf : Star → ℕ
 minOf noStar = 0

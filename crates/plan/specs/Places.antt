@@ -27,7 +27,7 @@ use Rattle.template.specs.Reading.{got, counted, outermost}
 use Rattle.template.specs.Whole.{members, item, items, bodyHere}
 use Rattle.element.specs.Matches.{matches}
 use Rattle.assign.specs.Rows.{bit}
-use Rattle.cuts.specs.declared.Block.{Block}
+use Rattle.blocks.specs.declared.Block.{Block}
 use Rattle.plan.specs.Blocks.{minOf, maxOf, blockOfItem, lowOf, highOf, Standing}
 use Rattle.plan.specs.Contract.{Planned}
 use Rattle.plan.specs.declared.Plan.{Plan}

@@ -10,7 +10,7 @@ ghost use Rattle.plan.specs.Blocks.{block, Standing};
 ghost use Rattle.plan.specs.Contract.{PlanOf, RowsOf};
 ghost use Rattle.plan.specs.Places.{MembersAt, RowTo};
 use assign::mask::with;
-use cuts::Block;
+use blocks::Block;
 use element::match_element;
 use template::whole::scan_template;
 

@@ -7,7 +7,7 @@ ghost use lib.ListN.{length, getD};
 ghost use Rattle.plan.specs.Places.{GroupHere, GroupWalked, ItemHere, ItemWalked, ItemsHere, ItemsPlan, GroupPlan, BodyHere, BodyPlan};
 use crate::Plan;
 use crate::no_block;
-use cuts::Block;
+use blocks::Block;
 use template::after_element;
 
 const RECORD_OF: u8 = 0x10;

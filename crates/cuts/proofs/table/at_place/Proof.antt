@@ -5,7 +5,7 @@ use mathlib.Core.List.{List}
 use Prim.Native.Nat.{ℕ, _+_, _-_, _≤_, _<_, min}
 use native.Mathlib.Omega.{arith}
 use borrow.Author.Needs.{needs}
-use Rattle.cuts.specs.declared.Block.{Block}
+use Rattle.blocks.specs.declared.Block.{Block}
 use Rattle.cuts.specs.Table.{Given, Tabled, CutBefore}
 use Rattle.cuts.proofs.Tables.{onward, place-start, place-step, place-end}
 use Rattle.cuts.proofs.table.at_place.Statement.{statement}

@@ -5,7 +5,7 @@ use mathlib.Core.List.{List}
 use Prim.Native.Nat.{ℕ, _+_, _-_, _≤_, _<_}
 use native.Mathlib.Omega.{arith}
 use borrow.Author.Needs.{needs}
-use Rattle.cuts.specs.declared.Block.{Block}
+use Rattle.blocks.specs.declared.Block.{Block}
 use Rattle.cuts.specs.Table.{Tabled}
 use Rattle.cuts.proofs.Tables.{Walked, walk-start, walk-table, walk-step, walk-end}
 use Rattle.cuts.proofs.table.prepend_any.Statement.{statement}

@@ -6,7 +6,7 @@ use mathlib.Core.List.{List, _∷_}
 use Prim.Native.Nat.{ℕ, _+_, _-_, _≤_, _<_}
 use native.Mathlib.Omega.{arith}
 use borrow.Author.Needs.{needs}
-use Rattle.cuts.specs.declared.Block.{Block}
+use Rattle.blocks.specs.declared.Block.{Block}
 use Rattle.cuts.specs.declared.Suffix.{Suffix}
 use Rattle.cuts.specs.Cut.{Cuts}
 use Rattle.cuts.specs.Table.{Given, Tabled}

@@ -6,7 +6,7 @@ use Prim.Native.Nat.{ℕ, _+_, _-_, _≤_}
 use native.Mathlib.Omega.{arith}
 use lib.ListN.{length}
 use borrow.Author.Needs.{needs}
-use Rattle.cuts.specs.declared.Block.{Block}
+use Rattle.blocks.specs.declared.Block.{Block}
 use Rattle.passes.specs.Reach.{Reached}
 use Rattle.passes.proofs.Reaches.{Extended, extended-start, extended-step, extended-end}
 use Rattle.passes.proofs.reach.extend.Statement.{statement}
