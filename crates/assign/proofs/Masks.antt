@@ -164,14 +164,13 @@ and-none a b j z p q = clash (ap₂ (λ s t. s && t) p q) (sym (bit-and a b j) �
 pub and-bits : (a b j : ℕ) → bit (bitAnd a b) j ≡ true → (bit a j ≡ true) × (bit b j ≡ true)
 and-bits a b j h = let k = sym (bit-and a b j) ∙ h in (and-left (bit a j) (bit b j) k, and-right (bit a j) (bit b j) k)
 
--- the same of a row: what it has in common with a mask
-pub row-bits : (rows : List ℕ) (m b e : ℕ) → bit (bitAnd (getD rows m 0) b) e ≡ true → (may rows m e ≡ true) × (bit b e ≡ true)
-unfolding may
-row-bits rows m b e h = and-bits (getD rows m 0) b e h
+-- the same of the choices of a member: what they have in common with a mask
+module _ (rows : List ℕ) (m row : ℕ) (choices : (e : ℕ) → bit row e ≡ may rows m e) where
+  pub row-bits : (b e : ℕ) → bit (bitAnd row b) e ≡ true → (may rows m e ≡ true) × (bit b e ≡ true)
+  row-bits b e h = let k = and-bits row b e h in (sym (choices e) ∙ k .0, k .1)
 
-pub row-none : (rows : List ℕ) (m b e : ℕ) → bitAnd (getD rows m 0) b ≡ 0 → may rows m e ≡ true → bit b e ≡ true → ⊥
-unfolding may
-row-none rows m b e h p q = and-none (getD rows m 0) b e h p q
+  pub row-none : (b e : ℕ) → bitAnd row b ≡ 0 → may rows m e ≡ true → bit b e ≡ true → ⊥
+  row-none b e h p q = and-none row b e h (choices e ∙ p) q
 
 -- ---- a number is its bits
 bit-half : (a k : ℕ) → bit a (suc k) ≡ bit (a / 2) k
@@ -204,7 +203,7 @@ plus-same {P} {S} {R} {m} p q k = ⊎-elim
     (λ (n : k ≡ m → ⊥). p .other k n ∙ sym (q .other k n))
     (same? k m)
 
--- what `has` says of a row
-pub row-has : (rows : List ℕ) (m e : ℕ) {r : Bool} → r ≡ bit (getD rows m 0) e → r ≡ may rows m e
+-- a row has the choices of its member
+pub row-may : (rows : List ℕ) (m e : ℕ) → bit (getD rows m 0) e ≡ may rows m e
 unfolding may
-row-has rows m e h = h
+row-may rows m e = refl

@@ -8,6 +8,7 @@ ghost use Rattle.assign.specs.Chain.{Opened, Ready, Settled, Placed, wit
 use crate::Found;
 use crate::mask::has;
 use crate::mask::with;
+use crate::rows::choices;
 use crate::visit::flip;
 use crate::visit::lowest;
 
@@ -71,7 +72,7 @@ pub fn settle(rows: &[u32; 32], free: u32, held: u32, w: [u8; 32], m: u8, visite
     requires { ⌜ Ready (bit free) (bit held) (bit visited) w m ⌝ }
     ensures { λ r. ⌜ Settled (now (rows .entry)) (bit free) (bit held) (bit visited) w m (r .found) (r .taken) (bit (r .seen)) (bit (r .held)) (r .w) ⌝ }
 {
-    let row = rows[m as usize];
+    let row = choices(rows, m);
     let mut seen = with(visited, m);
     let mut left = held;
     if row & free != 0 {

@@ -9,8 +9,8 @@ use crate::SPARE;
 use crate::chain::open_places;
 use crate::chain::place;
 use crate::chain::settle;
-use crate::mask::has;
 use crate::mask::with;
+use crate::rows::may_take;
 use crate::visit::flip;
 use crate::visit::lowest;
 
@@ -32,7 +32,7 @@ fn rivals(rows: &[u32; 32], to: u8, w: [u8; 32], e: u8) -> u32
     while p < to {
         let m = w[p as usize];
         if m < bound {
-            if has(rows[m as usize], e) {
+            if may_take(rows, m, e) {
                 found = with(found, m);
             }
         }

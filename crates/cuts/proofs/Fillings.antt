@@ -332,16 +332,16 @@ pub padded-start : (rows : List ℕ) (n k : ℕ) → PaddedTo rows n k 0 (replic
 padded-start rows n k = record { size = length-replicate {A = ℕ} 32 0; each = λ j e l. absurd (omega arith) }
 
 pub padded-step : {rows : List ℕ} {n k m : ℕ} {r : List ℕ} (more row : ℕ) → m < 32 → PaddedTo rows n k m r → ((e : ℕ) → bit more e ≡ between n k e)
-    → ((e : ℕ) → bit row e ≡ (bit (getD rows m 0) e || bit more e)) → PaddedTo rows n k (m + 1) (set r m row)
+    → (own : ℕ) → ((e : ℕ) → bit own e ≡ may rows m e) → ((e : ℕ) → bit row e ≡ (bit own e || bit more e)) → PaddedTo rows n k (m + 1) (set r m row)
 unfolding may
-padded-step {rows} {n} {k} {m} {r} more row h g b u =
+padded-step {rows} {n} {k} {m} {r} more row h g b own v u =
     let long = g .size in
     record {
       size = length-set r m row ∙ long;
       each = λ j e l. ⊎-elim
           (λ (q : j ≡ m).
           subst (λ (i : ℕ). bit (getD (set r m row) i 0) e ≡ (bit (getD rows i 0) e || between n k e)) (sym q)
-          (ap (λ (x : ℕ). bit x e) (getD-set-same r m row 0 (omega arith)) ∙ u e ∙ ap (λ t. bit (getD rows m 0) e || t) (b e)))
+          (ap (λ (x : ℕ). bit x e) (getD-set-same r m row 0 (omega arith)) ∙ u e ∙ ap₂ (λ s t. s || t) (v e) (b e)))
           (λ (q : j ≡ m → ⊥). ap (λ (x : ℕ). bit x e) (getD-set-other r m j row 0 q) ∙ g .each j e (omega arith))
           (same? j m);
     }

@@ -11,7 +11,7 @@ ghost use Rattle.cuts.specs.Table.{Given, Spliced, Kept, Single};
 use crate::SPARE;
 use crate::Suffix;
 use assign::first_assignment;
-use assign::mask::has;
+use assign::rows::may_take;
 use blocks::Block;
 
 // Whether a comes before b in byte order, by the places from .. to - 1.
@@ -70,7 +70,7 @@ fn single(rows: &[u32; 32], m: u8, rest: Suffix, from: usize) -> Suffix
     requires { ⌜ (m < 32) × (from < 32) ⌝ }
     ensures { λ r. ⌜ Single (now (rows .entry)) m from rest r ⌝ }
 {
-    if !has(rows[m as usize], from as u8) {
+    if !may_take(rows, m, from as u8) {
         let blank = [SPARE; 32];
         return Suffix {
             there: false,

@@ -5,6 +5,7 @@ ghost use Prim.Native.Nat.{ℕ, _≤_};
 ghost use Rattle.assign.specs.Rows.{bit, between};
 ghost use Rattle.cuts.specs.Pad.{Padded};
 use assign::mask::with;
+use assign::rows::choices;
 
 // The numbers n .. k - 1.
 fn span(n: u8, k: u8) -> u32
@@ -36,7 +37,7 @@ pub fn padded(rows: &[u32; 32], n: u8, k: u8) -> [u32; 32]
     let mut r = [0u32; 32];
     let mut m: u8 = 0;
     while m < k {
-        let row = union(rows[m as usize], more);
+        let row = union(choices(rows, m), more);
         r[m as usize] = row;
         m += 1;
     }

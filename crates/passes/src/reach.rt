@@ -11,6 +11,7 @@ ghost use Rattle.passes.specs.Reach.{Reached, Fresh, Sees, Whole};
 use crate::SPARE;
 use assign::mask::has;
 use assign::mask::with;
+use assign::rows::may_take;
 use blocks::Block;
 
 // Whether the bytes of a piece are right with no member twice, and the members that stand there.
@@ -33,7 +34,7 @@ pub fn fresh(rows: &[u32; 32], b: Block, members: u32, e: u8, x: u8) -> bool
     if has(members, x) {
         return false;
     }
-    has(rows[x as usize], e)
+    may_take(rows, x, e)
 }
 
 // What stands in the bytes from .. to - 1 of w.

@@ -9,7 +9,6 @@ use lib.ListN.{length, getD}
 use mir.Syntax.{w8}
 use borrow.Kind.Array.{eInt, good-length}
 use borrow.Author.Tests.{not-true, not-false}
-use borrow.Author.Needs.{needs}
 use native.Mathlib.Omega.{arith}
 use borrow.Fn.Kinds.{In}
 use borrow.Fn.PlainCycle.{Measures, is, falls, and}
@@ -25,6 +24,7 @@ use Rattle.assign.proofs.visit.flip.Reads as flip-reads
 use Rattle.assign.proofs.mask.has.Reads as has-reads
 use Rattle.assign.proofs.visit.lowest.Reads as lowest-reads
 use Rattle.assign.proofs.mask.with.Reads as with-reads
+use Rattle.assign.proofs.rows.choices.Reads as choices-reads
 use Rattle.assign.proofs.chain.+settle.{statement}
 use Rattle.assign.proofs.chain.+settle.Tie.{close}
 
@@ -37,6 +37,8 @@ at t = and 1 settle-kinds.ps (is 1 settle-kinds.ps μ-settle t) settle.Pre
 
 abbrev calls : ℕ → lts.Claims
 calls t = (
+  choices-reads.Asked,
+  choices-reads.Learnt,
   with-reads.Asked,
   with-reads.Learnt,
   lowest-reads.Asked,
@@ -60,11 +62,8 @@ abbrev μ : lts.MeasureT-loop
 size : (t : ℕ) (c : lts.Start (calls t) (at t) settle.Post Inv μ) → length (c .args .t4) ≡ 32
 size t c = good-length (eInt w8) 32 (c .args .t4) _ (c .good .1 .1 .1 .0)
 
-mul-row : (t : ℕ) → lts.Need-mul-row (calls t) (at t) settle.Post Inv μ
-mul-row t c = search needs
-
-element-copy-out-row : (t : ℕ) → lts.Need-element-copy-out-row (calls t) (at t) settle.Post Inv μ
-element-copy-out-row t c = omega (arith, c .pre .1 .member)
+choices-requires : (t : ℕ) → lts.Need-choices-requires (calls t) (at t) settle.Post Inv μ
+choices-requires t c κs = c .pre .1 .member
 
 with-requires : (t : ℕ) → lts.Need-with-requires (calls t) (at t) settle.Post Inv μ
 with-requires t c κs = c .before .pre .1 .member
@@ -79,11 +78,12 @@ give-requires t c κs = (c .lowest .ensures .low, c .before .before .before .bef
 returns : (t : ℕ) → lts.Need-returns (calls t) (at t) settle.Post Inv μ
 returns t c =
     let chosen = c .before in
-    let start = chosen .before .before .before .before in
+    let picked = chosen .before .before .before in
+    let start = picked .before in
     let a = start .args in
     let e = chosen .lowest .result in
     let found = chosen .lowest .ensures in
-    let bits = row-bits (a .rows .now) (a .m) (a .free) e (found .inside) in
+    let bits = row-bits (a .rows .now) (a .m) (picked .choices .result) (picked .choices .ensures) (a .free) e (found .inside) in
     settled-found (c .give .ensures)
     (give-spare e (size t start) (start .pre .1 .member) (found .low)
     (reach-free (a .rows .now) (bit (a .free)) (bit (a .held)) (a .m) e (bits .0) (bits .1)) (start .pre .1 .free _ (bits .1)))
@@ -111,8 +111,9 @@ here : (t : ℕ) (c : lts.After-flip (calls t) (at t) settle.Post Inv μ)
     × (getD (a .t4) (c .before .lowest2 .result) 0 < 32)
 here t c =
     let l = c .before .before .before in
-    let start = l .before .before .before .before in
-    let bits = row-bits (start .args .rows .now) (start .args .m) (l .loop .left) (c .before .lowest2 .result) (c .before .lowest2 .ensures .inside) in
+    let picked = l .before .before .before in
+    let start = picked .before in
+    let bits = row-bits (start .args .rows .now) (start .args .m) (picked .choices .result) (picked .choices .ensures) (l .loop .left) (c .before .lowest2 .result) (c .before .lowest2 .ensures .inside) in
     (bits .0, bits .1, start .pre .1 .held _ (l .loop .inv .fell _ (bits .1)))
 
 has-requires : (t : ℕ) → lts.Need-has-requires (calls t) (at t) settle.Post Inv μ
@@ -184,13 +185,14 @@ loop-again-2 t c =
 returns-3 : (t : ℕ) → lts.Need-returns-3 (calls t) (at t) settle.Post Inv μ
 returns-3 t c =
     let l = c .before in
-    let a = l .before .before .before .before .args in
+    let picked = l .before .before .before in
+    let a = picked .before .args in
     record {
       gave = λ q. absurd (clash q refl);
       filled = λ q. absurd (clash q refl);
       stuck = λ _. finish
-          (λ e. row-none (a .rows .now) (a .m) (a .free) e (l .before .if1 .left))
-          (λ e. row-none (a .rows .now) (a .m) (l .loop .left) e (c .loop-test .left))
+          (λ e. row-none (a .rows .now) (a .m) (picked .choices .result) (picked .choices .ensures) (a .free) e (l .before .if1 .left))
+          (λ e. row-none (a .rows .now) (a .m) (picked .choices .result) (picked .choices .ensures) (l .loop .left) e (c .loop-test .left))
           (l .loop .inv);
       same = λ _. refl;
     }
@@ -198,8 +200,7 @@ returns-3 t c =
 pub +settle-spec : {M : Type 1} → statement M
 +settle-spec =
     close μ-settle λ t. lts.spec (calls t) (at t) settle.Post Inv μ
-    (mul-row t)
-    (element-copy-out-row t)
+    (choices-requires t)
     (with-requires t)
     (lowest-requires t)
     (give-requires t)

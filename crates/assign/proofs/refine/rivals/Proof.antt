@@ -9,7 +9,7 @@ use borrow.Author.Needs.{needs}
 use Rattle.assign.specs.Rows.{bit}
 use Rattle.assign.specs.Refine.{Rivals}
 use Rattle.assign.proofs.Lemmas.{clash}
-use Rattle.assign.proofs.Masks.{bit-none, row-has}
+use Rattle.assign.proofs.Masks.{bit-none}
 use Rattle.assign.proofs.Firsts.{rivals-none, rivals-skip, rivals-more}
 use Rattle.assign.proofs.refine.rivals.Statement.{statement}
 use Rattle.assign.proofs.refine.rivals.Tie as tie
@@ -43,20 +43,11 @@ small : (c : tie.Then1 Inv-loop μ-loop) → let l = c .before .before in let a 
     (getD (a .t3) (l .loop .p) 0 < 32) × (getD (a .t3) (l .loop .p) 0 < getD (a .t3) (a .e) 0)
 small c = let b = c .before .before .before .least .ensures in (omega (arith, c .if1 .taken), omega (arith, c .if1 .taken))
 
-cast-has : tie.Need-cast-has Inv-loop μ-loop
-cast-has c = let s = small c in omega arith
-
-mul-has : tie.Need-mul-has Inv-loop μ-loop
-mul-has c = let s = small c in omega arith
-
-element-copy-out-has : tie.Need-element-copy-out-has Inv-loop μ-loop
-element-copy-out-has c = small c .0
-
-has-requires : tie.Need-has-requires Inv-loop μ-loop
-has-requires c κs = let p = c .before .before .before .before .before .pre in omega (arith, p .0, p .1)
+may-take-requires : tie.Need-may-take-requires Inv-loop μ-loop
+may-take-requires c κs = let p = c .before .before .before .before .pre in (small c .0, omega (arith, p .0, p .1))
 
 with-requires : tie.Need-with-requires Inv-loop μ-loop
-with-requires c κs = small (c .before .before .before) .0
+with-requires c κs = small (c .before .before) .0
 
 add-p-2 : tie.Need-add-p-2 Inv-loop μ-loop
 add-p-2 c = omega arith
@@ -77,14 +68,14 @@ loop-again c =
       ⊎-elim
           (λ w.
           let s = small (record { before = c .before; if1 = w .0 }) in
-          subst again (sym (w .5)) (rivals-more (i .2) (w .4 .ensures) (record {
+          subst again (sym (w .4)) (rivals-more (i .2) (w .3 .ensures) (record {
             low = s .0;
             below = s .1;
-            may-take = sym (row-has (a .rows .now) m (a .e) (w .2 .ensures)) ∙ w .3 .taken;
+            may-take = sym (w .1 .ensures) ∙ w .2 .taken;
             later = record { place = l .loop .p; after = i .0; early = omega arith; here = refl };
           })))
           (⊎-elim
-          (λ w. subst again (sym (w .4)) (rivals-skip (i .2) (λ r. clash (r .may-take) (sym (row-has (a .rows .now) m (a .e) (w .2 .ensures)) ∙ w .3 .left))))
+          (λ w. subst again (sym (w .3)) (rivals-skip (i .2) (λ r. clash (r .may-take) (sym (w .1 .ensures) ∙ w .2 .left))))
           (λ w. subst again (sym (w .1)) (rivals-skip (i .2) (λ r. let x = r .low in let y = r .below in omega (arith, w .0 .left)))))
           (c .if1 .came),
     )
@@ -98,5 +89,5 @@ returns c =
 pub rivals-spec : {M : Type 1} → statement M
 rivals-spec =
     tie.close
-    (tie.spec Inv-loop μ-loop array-read-least least-requires add-p loop-holds cast-m array-read-m cast-has mul-has element-copy-out-has has-requires with-requires
+    (tie.spec Inv-loop μ-loop array-read-least least-requires add-p loop-holds cast-m array-read-m may-take-requires with-requires
     add-p-2 loop-less loop-again returns)

@@ -11,6 +11,7 @@ use Rattle.cuts.proofs.pad.padded.Reads as reads
 use Rattle.cuts.proofs.pad.padded.Lts as lts
 use Rattle.cuts.proofs.pad.span.Reads as span-reads
 use Rattle.cuts.proofs.pad.union.Reads as union-reads
+use Rattle.assign.proofs.rows.choices.Reads as choices-reads
 
 abbrev Inv-loop : tie.InvT-loop
 Inv-loop rows n k more r₀ m₀ r m = (m ≤ k) × ((e : ℕ) → bit more e ≡ between n k e) × PaddedTo rows n k m r
@@ -24,14 +25,8 @@ span-requires c κs = c .pre
 loop-holds : tie.Need-loop-holds Inv-loop μ-loop
 loop-holds c = (omega arith, c .span .ensures, padded-start _ _ _)
 
-cast-union : tie.Need-cast-union Inv-loop μ-loop
-cast-union c = search needs
-
-mul-union : tie.Need-mul-union Inv-loop μ-loop
-mul-union c = search needs
-
-element-copy-out-union : tie.Need-element-copy-out-union Inv-loop μ-loop
-element-copy-out-union c = search needs
+choices-requires : tie.Need-choices-requires Inv-loop μ-loop
+choices-requires c κs = omega arith
 
 union-requires : tie.Need-union-requires Inv-loop μ-loop
 union-requires c κs = search needs
@@ -52,7 +47,7 @@ loop-less : tie.Need-loop-less Inv-loop μ-loop
 loop-less c = omega arith
 
 loop-again : tie.Need-loop-again Inv-loop μ-loop
-loop-again c = let i = c .before .before .before .loop .inv in (omega arith, i .1, padded-step _ _ (omega arith) (i .2) (i .1) (c .union .ensures))
+loop-again c = let i = c .before .before .before .loop .inv in (omega arith, i .1, padded-step _ _ (omega arith) (i .2) (i .1) _ (c .before .choices .ensures) (c .union .ensures))
 
 returns : tie.Need-returns Inv-loop μ-loop
 returns c =
@@ -66,9 +61,7 @@ padded-spec =
     μ-loop
     span-requires
     loop-holds
-    cast-union
-    mul-union
-    element-copy-out-union
+    choices-requires
     union-requires
     cast-r
     mul-r

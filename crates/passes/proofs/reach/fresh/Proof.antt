@@ -2,13 +2,13 @@
 use mathlib.Core.Path.{_≡_, sym, _∙_}
 use native.Mathlib.Omega.{arith}
 use borrow.Author.Needs.{needs}
-use Rattle.assign.proofs.Masks.{row-has}
 use Rattle.passes.proofs.Seen.{fresh-low, fresh-high, fresh-old, fresh-may}
 use Rattle.passes.proofs.reach.fresh.Statement.{statement}
 use Rattle.passes.proofs.reach.fresh.Tie as tie
 use Rattle.passes.proofs.reach.fresh.Reads as reads
 use Rattle.passes.proofs.reach.fresh.Lts as lts
 use Rattle.assign.proofs.mask.has.Reads as has-reads
+use Rattle.assign.proofs.rows.may_take.Reads as may-take-reads
 
 returns : tie.Need-returns
 returns c = fresh-low (c .if1 .taken)
@@ -25,18 +25,12 @@ has-requires c κs = search needs
 returns-3 : tie.Need-returns-3
 returns-3 c = fresh-old (sym (c .before .has .ensures) ∙ c .if3 .taken)
 
-mul-has : tie.Need-mul-has
-mul-has c = search needs
-
-element-copy-out-has : tie.Need-element-copy-out-has
-element-copy-out-has c = search needs
-
-has-requires-2 : tie.Need-has-requires-2
-has-requires-2 c κs = search needs
+may-take-requires : tie.Need-may-take-requires
+may-take-requires c κs = search needs
 
 returns-4 : tie.Need-returns-4
 returns-4 c =
-    fresh-may (omega arith) (omega arith) (sym (c .before .before .before .has .ensures) ∙ c .before .before .if3 .left) (row-has _ _ _ (c .has2 .ensures))
+    fresh-may (omega arith) (omega arith) (sym (c .before .before .has .ensures) ∙ c .before .if3 .left) (c .may-take .ensures)
 
 pub fresh-spec : {M : Type 1} → statement M
 fresh-spec =
@@ -47,7 +41,5 @@ fresh-spec =
     returns-2
     has-requires
     returns-3
-    mul-has
-    element-copy-out-has
-    has-requires-2
+    may-take-requires
     returns-4)
