@@ -1,4 +1,5 @@
 pub mod Lists
+pub mod Bytes
 pub mod Givens
 pub mod Laws
 pub mod Tables

@@ -17,7 +17,8 @@ use Rattle.assign.proofs.Lemmas.{same?, holds?, clash, not-so, between-to}
 use Rattle.blocks.specs.declared.Block.{Block}
 use Rattle.cuts.specs.declared.Suffix.{Suffix}
 use Rattle.cuts.specs.Cut.{Takes, CutAt, Cuts, Inside, Best, Cutting}
-use Rattle.cuts.specs.Table.{Given, nothing, beyond, Tabled, Kept, alone, CutBefore}
+use Rattle.cuts.specs.Table.{Given, nothing, entry, Written, shortest, longest, together, Tabled, Prepended, Kept, alone, CutBefore}
+use Rattle.cuts.proofs.Bytes.{blank-entry}
 use Rattle.cuts.proofs.Givens.{given-none, given-same, kept-union, joined-spare, spare-bytes}
 use Rattle.cuts.proofs.Laws.{cuts-order}
 
@@ -40,20 +41,18 @@ never-empty : (rows : List ℕ) (p n : ℕ) → (p ≡ n → ⊥) → (v : List 
 unfolding Cuts
 never-empty rows p n d v h = d (h .0)
 
-pub tabled-last : (n : ℕ) → n ≤ 32 → (rows : List ℕ) → Tabled rows [] n 0 (set (replicate 33 nothing) n empty)
-tabled-last n h rows =
-    let long = length-replicate {A = Suffix} 33 nothing in
-    record {
-      size = length-set (replicate 33 nothing) n empty ∙ long;
-      at = λ p _ l. ⊎-elim
-          (λ (q : p ≡ n).
-          subst (λ (x : ℕ). Given (Cuts rows [] x n) x n (getD (set (replicate 33 nothing) n empty) x beyond)) (sym q)
-          (subst (λ (x : Suffix). Given (Cuts rows [] n n) n n x) (sym (getD-set-same (replicate 33 nothing) n empty beyond (omega arith))) (given-end rows n h)))
-          (λ (q : p ≡ n → ⊥).
-          let e : getD (set (replicate 33 nothing) n empty) p beyond ≡ nothing = getD-set-other (replicate 33 nothing) n p empty beyond q ∙ getD-replicate {A = Suffix} 33 p nothing beyond (omega arith) in
-          subst (λ (x : Suffix). Given (Cuts rows [] p n) p n x) (sym e) (given-none refl refl (never-empty rows p n q)))
-          (same? p n);
-    }
+pub tabled-last : (n : ℕ) {t : List ℕ} → n ≤ 32 → Written n empty (replicate 1089 255) t → (rows : List ℕ) (low high : ℕ) → Tabled rows [] n low high t
+tabled-last n {t} h w rows low high = record {
+  size = w .size;
+  at = λ p _ _ l. ⊎-elim
+      (λ (q : p ≡ n).
+      subst (λ (x : ℕ). Given (Cuts rows [] x n) x n (entry t x)) (sym q)
+      (subst (λ (x : Suffix). Given (Cuts rows [] n n) n n x) (sym (w .here)) (given-end rows n h)))
+      (λ (q : p ≡ n → ⊥).
+      let e : entry t p ≡ nothing = w .other p (omega arith) q ∙ blank-entry p (omega arith) in
+      subst (λ (x : Suffix). Given (Cuts rows [] p n) p n x) (sym e) (given-none refl refl (never-empty rows p n q)))
+      (same? p n);
+}
 
 -- ---- one place: over the ends of the first piece
 abbrev pub onward : List ℕ → List Block → ℕ → ℕ → List ℕ → Type 0
@@ -102,38 +101,37 @@ module _ (rows : List ℕ) (b : Block) (bs : List Block) (from n : ℕ) where
   pub place-end : (stop : ℕ) {s : Suffix} → min (from + b .k + b .max) n < stop → Given (CutBefore rows b (onward rows bs n) from n stop) from n s → Given (Cuts rows (b ∷ bs) from n) from n s
   place-end stop l g = given-same (cut-before stop) (before-cut stop l) g
 
--- ---- all places: those before `from` have the new block, the others not yet
-pub record Walked (rows : List ℕ) (b : Block) (bs : List Block) (n from : ℕ) (u : List Suffix) : Type 0 where
-  pub size : length u ≡ 33
-  pub done : (p : ℕ) → p < from → p ≤ n → Given (Cuts rows (b ∷ bs) p n) p n (getD u p beyond)
-  pub todo : (p : ℕ) → from ≤ p → p ≤ n → Given (Cuts rows bs p n) p n (getD u p beyond)
+-- ---- the places low .. high: those before `from` have the new block, the others not yet
+pub record Walked (rows : List ℕ) (b : Block) (bs : List Block) (n low high from : ℕ) (u : List ℕ) : Type 0 where
+  pub size : length u ≡ 1089
+  pub done : (p : ℕ) → low ≤ p → p < from → p ≤ n → Given (Cuts rows (b ∷ bs) p n) p n (entry u p)
+  pub todo : (p : ℕ) → from ≤ p → low + shortest b ≤ p → p ≤ high + longest b → p ≤ n → Given (Cuts rows bs p n) p n (entry u p)
 
-pub walk-start : {rows : List ℕ} (b : Block) {bs : List Block} {n : ℕ} {t : List Suffix} → Tabled rows bs n 0 t → Walked rows b bs n 0 t
-walk-start b g = record { size = g .size; done = λ p l. absurd (omega arith); todo = g .at }
+pub walk-start : {rows : List ℕ} (b : Block) {bs : List Block} {n low high : ℕ} {t : List ℕ} → Tabled rows bs n (low + shortest b) (high + longest b) t → Walked rows b bs n low high low t
+walk-start b g = record { size = g .size; done = λ p f l. absurd (omega arith); todo = λ p _. g .at p }
 
-pub walk-table : {rows : List ℕ} {b : Block} {bs : List Block} {n from : ℕ} {u : List Suffix} → Walked rows b bs n from u → Tabled rows bs n from u
-walk-table g = record { size = g .size; at = g .todo }
+pub walk-table : {rows : List ℕ} {b : Block} {bs : List Block} {n low high from : ℕ} {u : List ℕ} → low ≤ from → from ≤ high → Walked rows b bs n low high from u
+    → Tabled rows bs n (from + shortest b) (from + longest b) u
+walk-table f l g = record { size = g .size; at = λ p a c e. g .todo p (omega arith) (omega arith) (omega arith) e }
 
-pub walk-step : {rows : List ℕ} {b : Block} {bs : List Block} {n from : ℕ} {u : List Suffix} {s : Suffix} → n ≤ 32 → from ≤ n → Walked rows b bs n from u
-    → Given (Cuts rows (b ∷ bs) from n) from n s → Walked rows b bs n (from + 1) (set u from s)
-walk-step {rows} {b} {bs} {n} {from} {u} {s} h f g new =
-    let long = g .size in
-    record {
-      size = length-set u from s ∙ long;
-      done = λ p l k. ⊎-elim
-          (λ (q : p ≡ from).
-          subst (λ (x : ℕ). Given (Cuts rows (b ∷ bs) x n) x n (getD (set u from s) x beyond)) (sym q)
-          (subst (λ (x : Suffix). Given (Cuts rows (b ∷ bs) from n) from n x) (sym (getD-set-same u from s beyond (omega arith))) new))
-          (λ (q : p ≡ from → ⊥).
-          subst (λ (x : Suffix). Given (Cuts rows (b ∷ bs) p n) p n x) (sym (getD-set-other u from p s beyond q)) (g .done p (omega arith) k))
-          (same? p from);
-      todo = λ p l k.
-          let q : p ≡ from → ⊥ = λ z. omega arith in
-          subst (λ (x : Suffix). Given (Cuts rows bs p n) p n x) (sym (getD-set-other u from p s beyond q)) (g .todo p (omega arith) k);
-    }
+pub walk-step : {rows : List ℕ} {b : Block} {bs : List Block} {n low high from : ℕ} {u v : List ℕ} {s : Suffix} → n ≤ 32 → Walked rows b bs n low high from u
+    → Written from s u v → Given (Cuts rows (b ∷ bs) from n) from n s → Walked rows b bs n low high (from + 1) v
+walk-step {rows} {b} {bs} {n} {low} {high} {from} {u} {v} {s} h g w new = record {
+  size = w .size;
+  done = λ p f l k. ⊎-elim
+      (λ (q : p ≡ from).
+      subst (λ (x : ℕ). Given (Cuts rows (b ∷ bs) x n) x n (entry v x)) (sym q)
+      (subst (λ (x : Suffix). Given (Cuts rows (b ∷ bs) from n) from n x) (sym (w .here)) new))
+      (λ (q : p ≡ from → ⊥).
+      subst (λ (x : Suffix). Given (Cuts rows (b ∷ bs) p n) p n x) (sym (w .other p (omega arith) q)) (g .done p f (omega arith) k))
+      (same? p from);
+  todo = λ p l f a k.
+      let q : p ≡ from → ⊥ = λ z. omega arith in
+      subst (λ (x : Suffix). Given (Cuts rows bs p n) p n x) (sym (w .other p (omega arith) q)) (g .todo p (omega arith) f a k);
+}
 
-pub walk-end : {rows : List ℕ} {b : Block} {bs : List Block} {n from : ℕ} {u : List Suffix} → n < from → Walked rows b bs n from u → Tabled rows (b ∷ bs) n 0 u
-walk-end l g = record { size = g .size; at = λ p _ k. g .done p (omega arith) k }
+pub walk-end : {rows : List ℕ} {b : Block} {bs : List Block} {n low high from : ℕ} {u : List ℕ} → high < from → Walked rows b bs n low high from u → Tabled rows (b ∷ bs) n low high u
+walk-end l g = record { size = g .size; at = λ p f a k. g .done p f (omega arith) k }
 
 -- ---- a block whose pieces are all of one length
 module _ (rows : List ℕ) (b : Block) (bs : List Block) (from n : ℕ) (even : b .min ≡ b .max) where
@@ -288,35 +286,53 @@ module _ (rows : List ℕ) (b : Block) (bs : List Block) (from n : ℕ) (z : b .
       (spared-given later e f end g)
 
 -- all places from `from` on, and what the last of them has
-pub record Opened (rows : List ℕ) (b : Block) (bs : List Block) (n from : ℕ) (best : Suffix) (u : List Suffix) : Type 0 where
-  pub size : length u ≡ 33
+pub record Opened (rows : List ℕ) (b : Block) (bs : List Block) (n from : ℕ) (best : Suffix) (u : List ℕ) : Type 0 where
   pub last : Given (Cuts rows (b ∷ bs) from n) from n best
-  pub at : (p : ℕ) → from ≤ p → p ≤ n → Given (Cuts rows (b ∷ bs) p n) p n (getD u p beyond)
+  pub at : (p : ℕ) → from ≤ p → p ≤ n → Given (Cuts rows (b ∷ bs) p n) p n (entry u p)
 
-pub opened-start : (rows : List ℕ) (b : Block) (bs : List Block) (n : ℕ) (t : List Suffix) → Tabled rows bs n 0 t → Opened rows b bs n (n + 1) nothing t
-opened-start rows b bs n t g = record {
-  size = g .size;
+pub opened-start : (rows : List ℕ) (b : Block) (bs : List Block) (n : ℕ) (t : List ℕ) → Opened rows b bs n (n + 1) nothing t
+opened-start rows b bs n t = record {
   last = given-none refl refl (λ v c. let o = cuts-order rows (b ∷ bs) (n + 1) n v c in omega arith);
   at = λ p l k. absurd (omega arith);
 }
 
-pub opened-step : {rows : List ℕ} {b : Block} {bs : List Block} {n : ℕ} (from next : ℕ) {best s : Suffix} {u : List Suffix} → next ≡ from + 1 → from ≤ n → n ≤ 32
-    → Opened rows b bs n next best u → Given (Cuts rows (b ∷ bs) from n) from n s → Opened rows b bs n from s (set u from s)
-opened-step {rows} {b} {bs} {n} from next {best} {s} {u} e f end g new =
-    let long = g .size in
-    record {
-      size = length-set u from s ∙ long;
-      last = new;
-      at = λ p l k. ⊎-elim
-          (λ (q : p ≡ from).
-          subst (λ (x : ℕ). Given (Cuts rows (b ∷ bs) x n) x n (getD (set u from s) x beyond)) (sym q)
-          (subst (λ (x : Suffix). Given (Cuts rows (b ∷ bs) from n) from n x) (sym (getD-set-same u from s beyond (omega arith))) new))
-          (λ (q : p ≡ from → ⊥).
-          subst (λ (x : Suffix). Given (Cuts rows (b ∷ bs) p n) p n x) (sym (getD-set-other u from p s beyond q)) (g .at p (omega arith) k))
-          (same? p from);
-    }
+pub opened-step : {rows : List ℕ} {b : Block} {bs : List Block} {n : ℕ} (from next : ℕ) {best s : Suffix} {u v : List ℕ} → next ≡ from + 1 → n ≤ 32
+    → Opened rows b bs n next best u → Written from s u v → Given (Cuts rows (b ∷ bs) from n) from n s → Opened rows b bs n from s v
+opened-step {rows} {b} {bs} {n} from next {best} {s} {u} {v} e end g w new = record {
+  last = new;
+  at = λ p l k. ⊎-elim
+      (λ (q : p ≡ from).
+      subst (λ (x : ℕ). Given (Cuts rows (b ∷ bs) x n) x n (entry v x)) (sym q)
+      (subst (λ (x : Suffix). Given (Cuts rows (b ∷ bs) from n) from n x) (sym (w .here)) new))
+      (λ (q : p ≡ from → ⊥).
+      subst (λ (x : Suffix). Given (Cuts rows (b ∷ bs) p n) p n x) (sym (w .other p (omega arith) q)) (g .at p (omega arith) k))
+      (same? p from);
+}
+
+-- ---- no place beyond n counts
+pub prepended-up : {rows : List ℕ} {b : Block} {n low high top : ℕ} {t u : List ℕ} → top ≡ min high n → Prepended rows b n low top t u → Prepended rows b n low high t u
+prepended-up q p = record {
+  size = p .size;
+  more = λ bs g.
+      let h = p .more bs (record { size = g .size; at = λ j f l k. g .at j f (omega arith) k }) in
+      record { size = h .size; at = λ j f l k. h .at j f (omega arith) k };
+}
 
 -- ---- all blocks, from the last to the first
+together-next : (f : Block → ℕ) (d : Block) (bs : List Block) (i : ℕ) → i < length bs → together f (take (suc i) bs) ≡ together f (take i bs) + f (getD bs i d)
+unfolding together
+together-next f d [] i l = absurd (omega arith)
+together-next f d (b ∷ bs) zero l = omega arith
+together-next f d (b ∷ bs) (suc i) l = let ih = together-next f d bs i (omega arith) in omega arith
+
+pub together-more : (f : Block → ℕ) (d : Block) (bs : List Block) (i j : ℕ) → j ≡ i + 1 → i < length bs → together f (take j bs) ≡ together f (take i bs) + f (getD bs i d)
+together-more f d bs i j q l = ap (λ (x : ℕ). together f (take x bs)) (q ∙ add-one i) ∙ together-next f d bs i l
+
+pub together-none : (f : Block → ℕ) (bs : List Block) → together f (take 0 bs) ≡ 0
+unfolding together
+together-none f [] = refl
+together-none f (b ∷ bs) = refl
+
 pub inside-at : (d : Block) (bs : List Block) (j : ℕ) → j < length bs → Inside bs → getD bs j d .first + getD bs j d .k ≤ 32
 unfolding Inside
 inside-at d [] j l h = absurd (omega arith)
@@ -327,19 +343,20 @@ module _ (rows : List ℕ) (blocks : List Block) (count n : ℕ) (size : length 
   long : length (take count blocks) ≡ count
   long = let x = length-take count blocks in omega arith
 
-  pub cut-start : {t : List Suffix} → Tabled rows [] n 0 t → Tabled rows (drop count (take count blocks)) n 0 t
-  cut-start {t} g =
+  pub cut-start : {low high : ℕ} {t : List ℕ} → Tabled rows [] n low high t → Tabled rows (drop count (take count blocks)) n low high t
+  cut-start {low} {high} {t} g =
       let x = long in
-      subst (λ (bs : List Block). Tabled rows bs n 0 t) (sym (drop-of-length-le (take count blocks) {i = count} (omega arith))) g
+      subst (λ (bs : List Block). Tabled rows bs n low high t) (sym (drop-of-length-le (take count blocks) {i = count} (omega arith))) g
 
-  pub cut-step : (d : Block) (j i : ℕ) {t u : List Suffix} → j ≡ suc i → j ≤ count
-      → ((bs : List Block) → Tabled rows bs n 0 t → Tabled rows (getD blocks i d ∷ bs) n 0 u)
-      → Tabled rows (drop j (take count blocks)) n 0 t → Tabled rows (drop i (take count blocks)) n 0 u
-  cut-step d j i {t} {u} q l more g =
+  pub cut-step : (d : Block) (j i : ℕ) {low high low′ high′ : ℕ} {t u : List ℕ} → j ≡ suc i → j ≤ count
+      → low ≡ low′ + shortest (getD blocks i d) → high ≡ high′ + longest (getD blocks i d) → Prepended rows (getD blocks i d) n low′ high′ t u
+      → Tabled rows (drop j (take count blocks)) n low high t → Tabled rows (drop i (take count blocks)) n low′ high′ u
+  cut-step d j i {low} {high} {low′} {high′} {t} {u} q l ql qh more g =
       let x = long in
       let e : drop i (take count blocks) ≡ getD blocks i d ∷ drop j (take count blocks) =
       drop-cons (take count blocks) i d (omega arith) ∙ rw (getD-take count blocks i d (omega arith), q) in
-      subst (λ (bs : List Block). Tabled rows bs n 0 u) (sym e) (more (drop j (take count blocks)) g)
+      let h : Tabled rows (drop j (take count blocks)) n (low′ + shortest (getD blocks i d)) (high′ + longest (getD blocks i d)) t = rw (ql, qh) at g in
+      subst (λ (bs : List Block). Tabled rows bs n low′ high′ u) (sym e) (more .more (drop j (take count blocks)) h)
 
   pub cut-inside : (d : Block) (i : ℕ) → i < count → Inside (take count blocks) → getD blocks i d .first + getD blocks i d .k ≤ 32
   cut-inside d i l h =

@@ -1,7 +1,12 @@
 -- The table of `first_cut`: for each place the first list by which the blocks so far take the elements from that place on.
 -- Given P from to s        <-> s is the first list of P at the places from .. to - 1 of 32 bytes, or says that P has none; all else is 255
--- nothing, beyond         == no list, as 32 bytes; what is read beyond a table
--- Tabled rows bs n from t  <-> from the place `from` on, the table t gives what the blocks bs take up to n
+-- nothing                 == no list, as 32 bytes
+-- entry t p               == what the bytes t of a table say of the place p: 33 bytes, the first of which is 1 where there is a list
+-- Written p s before after <-> the table `after` has s at the place p, and is `before` at every other place
+-- shortest b, longest b    == how many elements the block b takes, at least and at most
+-- together f bs            == f of each of bs, added up
+-- Tabled rows bs n low high t <-> at the places low .. high, the table t gives what the blocks bs take up to n
+-- Prepended rows b n low high before after <-> where `before` is a table of some blocks, `after` is that of b and these, at the places low .. high
 -- Spliced a b from to r    <-> r is b with the bytes from .. to - 1 of a
 -- Kept from to a b r       <-> r is the one of a and b that is there, or comes first
 -- Single rows m from rest r <-> r is rest with the member m before it, at the place `from`, or nothing where m may not take that element
@@ -9,8 +14,9 @@
 -- Assumes nothing: these are definitions.
 use mathlib.Core.Path.{_≡_}
 use mathlib.Core.Bool.{Bool, true, false}
-use mathlib.Core.List.{List, []}
-use Prim.Native.Nat.{ℕ, _≤_, _<_}
+use mathlib.Core.List.{List, [], _∷_}
+use Prim.Native.Nat.{ℕ, _+_, _*_, _≤_, _<_}
+use lib.Dec.{eqb}
 use lib.ListN.{length, getD, set, replicate}
 use lib.Seq.{slice}
 use Rattle.assign.specs.Order.{First, Joins, earlier}
@@ -26,16 +32,35 @@ pub record Given (P : List ℕ → Type 0) (from to : ℕ) (s : Suffix) : Type 0
   pub outside : (i : ℕ) → i < 32 → between from to i ≡ false → getD (s .w) i 0 ≡ 255
   pub blank : s .there ≡ false → s .w ≡ replicate 32 255
 
--- no list, as 32 bytes; and what is read beyond a table
+-- no list, as 32 bytes
 abbrev pub nothing : Suffix
 nothing = record { there = false; w = replicate 32 255 }
 
-abbrev pub beyond : Suffix
-beyond = record { there = false; w = [] }
+unfoldable pub entry : List ℕ → ℕ → Suffix
+entry t p = record { there = eqb (getD t (33 * p) 0) 1; w = slice (33 * p + 1) (33 * p + 33) t }
 
-pub record Tabled (rows : List ℕ) (bs : List Block) (n from : ℕ) (t : List Suffix) : Type 0 where
-  pub size : length t ≡ 33
-  pub at : (p : ℕ) → from ≤ p → p ≤ n → Given (Cuts rows bs p n) p n (getD t p beyond)
+pub record Written (p : ℕ) (s : Suffix) (before after : List ℕ) : Type 0 where
+  pub size : length after ≡ 1089
+  pub here : entry after p ≡ s
+  pub other : (q : ℕ) → q ≤ 32 → (q ≡ p → ⊥) → entry after q ≡ entry before q
+
+abbrev pub shortest : Block → ℕ
+shortest b = b .k + b .min
+
+abbrev pub longest : Block → ℕ
+longest b = b .k + b .max
+
+unfoldable pub together : (Block → ℕ) → List Block → ℕ
+together f [] = 0
+together f (b ∷ bs) = f b + together f bs
+
+pub record Tabled (rows : List ℕ) (bs : List Block) (n low high : ℕ) (t : List ℕ) : Type 0 where
+  pub size : length t ≡ 1089
+  pub at : (p : ℕ) → low ≤ p → p ≤ high → p ≤ n → Given (Cuts rows bs p n) p n (entry t p)
+
+pub record Prepended (rows : List ℕ) (b : Block) (n low high : ℕ) (before after : List ℕ) : Type 0 where
+  pub size : length after ≡ 1089
+  pub more : (bs : List Block) → Tabled rows bs n (low + shortest b) (high + longest b) before → Tabled rows (b ∷ bs) n low high after
 
 pub record Spliced (a b : List ℕ) (from to : ℕ) (r : List ℕ) : Type 0 where
   pub size : length r ≡ 32

@@ -5,8 +5,11 @@ ghost use Rattle.cuts.specs.Cut.{Inside, Cutting, Filling};
 use assign::Found;
 use assign::first_assignment;
 use blocks::Block;
+use cells::read;
 use joins::splice;
+use table::extent_of;
 
+mod cells; // the bytes of the table
 mod joins; // lists at their places in 32 bytes: joined, and the lesser of two
 mod pad; // rows with elements that every member may take
 mod table; // for each place what the blocks so far take from there on
@@ -26,15 +29,20 @@ pub fn first_cut(rows: &[u32; 32], blocks: [Block; 32], count: usize, n: u8) -> 
     ensures { λ r. ⌜ Cutting (now (rows .entry)) (take count blocks) n (r .found) (r .w) ⌝ }
 {
     let to = n as usize;
+    let whole = extent_of(blocks, count);
+    let mut low = whole.low;
+    let mut high = whole.high;
     let mut t = table::last(to);
     let mut j = count;
     while 0 < j {
         j -= 1;
         let b = blocks[j];
-        let u = table::prepend(rows, b, t, to);
-        t = u;
+        // the blocks before b take so many elements
+        low -= b.k as usize + b.min as usize;
+        high -= b.k as usize + b.max as usize;
+        table::prepend(rows, b, &mut t, low, high, to);
     }
-    let s = t[0];
+    let s = read(&t, 0);
     let w = s.w;
     Found {
         found: s.there,

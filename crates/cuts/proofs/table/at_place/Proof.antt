@@ -1,29 +1,45 @@
 -- `at_place` meets its contract. The invariant: best is the first cut whose first piece ends before `to`. The measure is the number of ends left.
 -- Assumes nothing.
-use mathlib.Core.Path.{_≡_, sym, _∙_}
+use mathlib.Core.Path.{_≡_, sym, _∙_, subst}
 use mathlib.Core.List.{List}
 use Prim.Native.Nat.{ℕ, _+_, _-_, _≤_, _<_, min}
 use native.Mathlib.Omega.{arith}
 use borrow.Author.Needs.{needs}
 use Rattle.blocks.specs.declared.Block.{Block}
-use Rattle.cuts.specs.Table.{Given, Tabled, CutBefore}
+use Rattle.cuts.specs.declared.Suffix.{Suffix}
+use Rattle.cuts.specs.Cut.{Cuts}
+use Rattle.cuts.specs.Table.{Given, Tabled, CutBefore, shortest, longest}
 use Rattle.cuts.proofs.Tables.{onward, place-start, place-step, place-end}
 use Rattle.cuts.proofs.table.at_place.Statement.{statement}
 use Rattle.cuts.proofs.table.at_place.Tie as tie
 use Rattle.cuts.proofs.table.at_place.Reads as reads
 use Rattle.cuts.proofs.table.at_place.Lts as lts
+use Rattle.cuts.proofs.cells.read.Reads as read-reads
 use Rattle.cuts.proofs.joins.joined.Reads as joined-reads
 use Rattle.cuts.proofs.joins.keep.Reads as keep-reads
-use Rattle.cuts.proofs.table.last_end.Reads as last-end-reads
+use Rattle.cuts.proofs.table.lesser.Reads as lesser-reads
 
 abbrev Inv-loop : tie.InvT-loop
-Inv-loop rows b from n t best₀ last to₀ best to = (from + b .k + b .min ≤ to) × (last ≡ min (from + b .k + b .max) n) × ((bs : List Block) → Tabled rows bs n from t → Given (CutBefore rows b (onward rows bs n) from n to) from n best)
+Inv-loop rows b t from n best₀ last to₀ best to = (from + b .k + b .min ≤ to) × (last ≡ min (from + b .k + b .max) n)
+    × ((bs : List Block) → Tabled rows bs n (from + shortest b) (from + longest b) t → Given (CutBefore rows b (onward rows bs n) from n to) from n best)
 
 abbrev μ-loop : tie.MeasureT-loop
-μ-loop rows b from n t best₀ last to₀ best to = (last + 1) - to
+μ-loop rows b t from n best₀ last to₀ best to = (last + 1) - to
 
-last-end-requires : tie.Need-last-end-requires Inv-loop μ-loop
-last-end-requires c κs = (c .pre .1, c .pre .2)
+cast-lesser : tie.Need-cast-lesser Inv-loop μ-loop
+cast-lesser c = search needs
+
+add-lesser : tie.Need-add-lesser Inv-loop μ-loop
+add-lesser c = search needs
+
+cast-lesser-2 : tie.Need-cast-lesser-2 Inv-loop μ-loop
+cast-lesser-2 c = search needs
+
+add-lesser-2 : tie.Need-add-lesser-2 Inv-loop μ-loop
+add-lesser-2 c = search needs
+
+lesser-requires : tie.Need-lesser-requires Inv-loop μ-loop
+lesser-requires c κs = search needs
 
 cast-to : tie.Need-cast-to Inv-loop μ-loop
 cast-to c = search needs
@@ -38,20 +54,19 @@ add-to-2 : tie.Need-add-to-2 Inv-loop μ-loop
 add-to-2 c = search needs
 
 loop-holds : tie.Need-loop-holds Inv-loop μ-loop
-loop-holds c = (omega arith, c .before .before .last-end .ensures, λ bs g. place-start _ _ bs _ _ _ (omega arith))
+loop-holds c = (omega arith, c .before .before .lesser .ensures, λ bs g. place-start _ _ bs _ _ _ (omega arith))
 
-mul-rest : tie.Need-mul-rest Inv-loop μ-loop
-mul-rest c = search needs
-
-array-copy-out-rest : tie.Need-array-copy-out-rest Inv-loop μ-loop
-array-copy-out-rest c = omega arith
+read-requires : tie.Need-read-requires Inv-loop μ-loop
+read-requires c κs = let p = c .before .before .before .before .before .before .before .pre in (omega arith, p .3)
 
 joined-requires : tie.Need-joined-requires Inv-loop μ-loop
 joined-requires c κs =
-    let p = c .before .before .before .before .before .before .pre in let i = c .before .before .loop .inv in (p .0, omega arith, omega arith, omega arith, omega arith)
+    let p = c .before .before .before .before .before .before .before .before .pre in
+    let i = c .before .before .loop .inv in
+    (p .0, omega arith, omega arith, omega arith, omega arith)
 
 keep-requires : tie.Need-keep-requires Inv-loop μ-loop
-keep-requires c κs = (c .before .before .before .before .before .before .before .pre .1, c .before .before .before .before .before .before .before .pre .2)
+keep-requires c κs = let p = c .before .before .before .before .before .before .before .before .before .pre in (p .1, p .2)
 
 add-to-3 : tie.Need-add-to-3 Inv-loop μ-loop
 add-to-3 c = search needs
@@ -61,11 +76,16 @@ loop-less c = omega arith
 
 loop-again : tie.Need-loop-again Inv-loop μ-loop
 loop-again c =
-    let i = c .before .before .before .before .loop .inv in (
+    let a = c .before .before .before .before .before .before .before .before .before .before .args in
+    let p = c .before .before .before .before .before .before .before .before .before .before .pre in
+    let i = c .before .before .before .before .loop .inv in
+    let to = c .before .before .before .before .loop .to in (
       omega arith,
       i .1,
       λ bs g. place-step _ _ bs _ _ _ (omega arith) (omega arith) (i .2 bs g)
-          (c .before .joined .ensures bs _ (omega arith) (c .before .before .before .before .before .before .before .before .pre .2) (g .at _ (omega arith) (omega arith))) (c .keep .ensures),
+          (c .before .joined .ensures bs _ (omega arith) (p .2)
+          (subst (λ (s : Suffix). Given (Cuts (a .rows .now) bs to (a .n)) to (a .n) s) (sym (c .before .before .read .ensures)) (g .at to (omega arith) (omega arith) (omega arith))))
+          (c .keep .ensures),
     )
 
 returns : tie.Need-returns Inv-loop μ-loop
@@ -77,14 +97,17 @@ at-place-spec =
     (tie.spec
     Inv-loop
     μ-loop
-    last-end-requires
+    cast-lesser
+    add-lesser
+    cast-lesser-2
+    add-lesser-2
+    lesser-requires
     cast-to
     add-to
     cast-to-2
     add-to-2
     loop-holds
-    mul-rest
-    array-copy-out-rest
+    read-requires
     joined-requires
     keep-requires
     add-to-3

@@ -1,19 +1,17 @@
 -- `last` meets its contract: only at n is there what no blocks take. Assumes nothing.
-use borrow.Author.Needs.{needs}
 use Rattle.cuts.proofs.Tables.{tabled-last}
+use borrow.Author.Needs.{needs}
 use Rattle.cuts.proofs.table.last.Statement.{statement}
 use Rattle.cuts.proofs.table.last.Tie as tie
 use Rattle.cuts.proofs.table.last.Reads as reads
 use Rattle.cuts.proofs.table.last.Lts as lts
+use Rattle.cuts.proofs.cells.write.Reads as write-reads
 
-mul-t : tie.Need-mul-t
-mul-t c = search needs
-
-array-set-from-t : tie.Need-array-set-from-t
-array-set-from-t c = search needs
+write-requires : tie.Need-write-requires
+write-requires c κs = search needs
 
 returns : tie.Need-returns
-returns c = tabled-last (c .args .n) (c .pre)
+returns c = λ rows low high. tabled-last _ (c .before .before .pre) (c .write .ensures) rows low high
 
 pub last-spec : {M : Type 1} → statement M
-last-spec = tie.close (tie.spec mul-t array-set-from-t returns)
+last-spec = tie.close (tie.spec write-requires returns)

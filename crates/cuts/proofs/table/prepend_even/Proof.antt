@@ -5,23 +5,27 @@ use mathlib.Core.Logic.{⊎-elim}
 use mathlib.Core.List.{List, _∷_}
 use Prim.Native.Nat.{ℕ, _+_, _-_, _≤_, _<_}
 use native.Mathlib.Omega.{arith}
+use lib.ListN.{length}
 use borrow.Author.Needs.{needs}
 use Rattle.blocks.specs.declared.Block.{Block}
 use Rattle.cuts.specs.declared.Suffix.{Suffix}
 use Rattle.cuts.specs.Cut.{Cuts}
-use Rattle.cuts.specs.Table.{Given, Tabled}
+use Rattle.cuts.specs.Table.{Given, Tabled, shortest, longest}
 use Rattle.cuts.proofs.Tables.{Walked, walk-start, walk-step, walk-end, even-end, even-none}
 use Rattle.cuts.proofs.table.prepend_even.Statement.{statement}
 use Rattle.cuts.proofs.table.prepend_even.Tie as tie
 use Rattle.cuts.proofs.table.prepend_even.Reads as reads
 use Rattle.cuts.proofs.table.prepend_even.Lts as lts
+use Rattle.cuts.proofs.cells.read.Reads as read-reads
+use Rattle.cuts.proofs.cells.write.Reads as write-reads
 use Rattle.cuts.proofs.joins.joined.Reads as joined-reads
 
 abbrev Inv-loop : tie.InvT-loop
-Inv-loop rows b n w size u₀ from₀ u from = (size ≡ b .k + b .min) × ((bs : List Block) → Tabled rows bs n 0 u₀ → Walked rows b bs n from u)
+Inv-loop rows b t₀ low high n w size from₀ t from = (size ≡ b .k + b .min) × (low ≤ from) × (length t ≡ 1089)
+    × ((bs : List Block) → Tabled rows bs n (low + shortest b) (high + longest b) t₀ → Walked rows b bs n low high from t)
 
 abbrev μ-loop : tie.MeasureT-loop
-μ-loop rows b n w size u₀ from₀ u from = (n + 1) - from
+μ-loop rows b t₀ low high n w size from₀ t from = (high + 1) - from
 
 cast-size : tie.Need-cast-size Inv-loop μ-loop
 cast-size c = search needs
@@ -33,26 +37,22 @@ add-size : tie.Need-add-size Inv-loop μ-loop
 add-size c = search needs
 
 loop-holds : tie.Need-loop-holds Inv-loop μ-loop
-loop-holds c = (refl, λ bs g. walk-start _ g)
+loop-holds c = (refl, omega arith, c .before .before .pre .3, λ bs g. walk-start _ g)
 
 add-to : tie.Need-add-to Inv-loop μ-loop
 add-to c = omega arith
 
-mul-rest : tie.Need-mul-rest Inv-loop μ-loop
-mul-rest c = search needs
-
-array-copy-out-rest : tie.Need-array-copy-out-rest Inv-loop μ-loop
-array-copy-out-rest c = omega arith
+read-requires : tie.Need-read-requires Inv-loop μ-loop
+read-requires c κs = let p = c .before .before .before .before .before .before .pre in (omega arith, c .before .before .before .loop .inv .2)
 
 joined-requires : tie.Need-joined-requires Inv-loop μ-loop
 joined-requires c κs =
-    let p = c .before .before .before .before .before .before .pre in let i = c .before .before .before .loop .inv in (p .0, omega arith, omega arith, omega arith, omega arith)
+    let p = c .before .before .before .before .before .before .before .pre in
+    let i = c .before .before .before .before .loop .inv in
+    (p .0, omega arith, omega arith, omega arith, omega arith)
 
-mul-u : tie.Need-mul-u Inv-loop μ-loop
-mul-u c = search needs
-
-array-set-from-u : tie.Need-array-set-from-u Inv-loop μ-loop
-array-set-from-u c = omega arith
+write-requires : tie.Need-write-requires Inv-loop μ-loop
+write-requires c κs = let p = c .before .before .before .before .before .before .pre in (omega arith, c .before .before .before .loop .inv .2)
 
 add-from : tie.Need-add-from Inv-loop μ-loop
 add-from c = omega arith
@@ -62,23 +62,27 @@ loop-less c = omega arith
 
 loop-again : tie.Need-loop-again Inv-loop μ-loop
 loop-again c =
-    let a = c .before .before .before .before .before .args in
-    let p = c .before .before .before .before .before .pre in
-    let l = c .before .before .loop in
+    let a = c .before .before .before .before .before .before .before .args in
+    let p = c .before .before .before .before .before .before .before .pre in
+    let l = c .before .before .before .before .loop in
     let i = l .inv in (
       i .0,
+      omega arith,
+      c .write .ensures .size,
       λ bs g.
-          let h = i .1 bs g in
+          let h = i .3 bs g in
+          let to = l .from + (a .b .k + a .b .min) in
           let here : Suffix → Type 0 = λ s. Given (Cuts (a .rows .now) (a .b ∷ bs) (l .from) (a .n)) (l .from) (a .n) s in
-          walk-step (p .1) (c .before .loop-test .taken) h (⊎-elim
-          (λ v. subst here (sym (v .3)) (even-end (a .rows .now) (a .b) bs (l .from) (a .n) (p .2) _ (ap (λ (x : ℕ). l .from + x) (i .0)) (v .0 .taken)
-          (v .2 .ensures bs (a .n) (v .0 .taken) (p .1) (h .todo _ (omega arith) (v .0 .taken)))))
-          (λ v. subst here (sym (v .1)) (even-none (a .rows .now) (a .b) bs (l .from) (a .n) (p .2) _ (ap (λ (x : ℕ). l .from + x) (i .0)) (v .0 .left)))
-          (c .if1 .came)),
+          let rest : Suffix → Type 0 = λ s. Given (Cuts (a .rows .now) bs to (a .n)) to (a .n) s in
+          walk-step (p .2) h (c .write .ensures) (⊎-elim
+          (λ v. subst here (sym (v .4)) (even-end (a .rows .now) (a .b) bs (l .from) (a .n) (p .4) to refl (v .0 .taken)
+          (v .3 .ensures bs (a .n) (v .0 .taken) (p .2) (subst rest (sym (v .2 .ensures)) (h .todo to (omega arith) (omega arith) (omega arith) (v .0 .taken))))))
+          (λ v. subst here (sym (v .1)) (even-none (a .rows .now) (a .b) bs (l .from) (a .n) (p .4) to refl (v .0 .left)))
+          (c .before .before .if1 .came)),
     )
 
 returns : tie.Need-returns Inv-loop μ-loop
-returns c = λ bs g. walk-end (omega arith) (c .before .loop .inv .1 bs g)
+returns c = let i = c .before .loop .inv in record { size = i .2; more = λ bs g. walk-end (omega arith) (i .3 bs g) }
 
 pub prepend-even-spec : {M : Type 1} → statement M
 prepend-even-spec =
@@ -91,11 +95,9 @@ prepend-even-spec =
     add-size
     loop-holds
     add-to
-    mul-rest
-    array-copy-out-rest
+    read-requires
     joined-requires
-    mul-u
-    array-set-from-u
+    write-requires
     add-from
     loop-less
     loop-again
