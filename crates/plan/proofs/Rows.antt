@@ -1,58 +1,108 @@
--- One row bit by bit, and the rows of the members one by one. Assumes nothing.
+-- One row bit by bit, the row of a leaf, and the rows of the members one by one. Assumes nothing.
 use mathlib.Core.Path.{_≡_, refl, sym, ap, _∙_, subst}
-use mathlib.Core.Bool.{Bool, true, false}
+use mathlib.Core.Bool.{Bool, true, false, _&&_}
 use mathlib.Core.Logic.{⊎-elim}
 use mathlib.Core.List.{List, [], _∷_}
 use Prim.Native.Nat.{ℕ, zero, suc, _+_, _-_, _≤_, _<_}
 use native.Mathlib.Omega.{arith}
 use lib.ListN.{length, getD, drop, take, set, replicate, length-set, length-replicate}
-use lib.IntN.{ℤ, pos}
+use lib.IntN.{ℤ, pos, negsuc}
+use lib.Signed.{leZ}
 use lib.Seq.{getD-set-same, getD-set-other, getD-take, length-take-le}
 use mir.Syntax.{w32}
 use mir.Val.{toZ, ofZ, SFits}
 use mir.Facts.{toZ-ofZ}
+use Rattle.words.specs.Integer.{Word, intAt}
 use Rattle.words.proofs.Cases.{below}
 use Rattle.template.specs.Element.{Elem}
 use Rattle.template.specs.Leaf.{Leaf, leafHead}
 use Rattle.template.specs.Reading.{got, counted, outermost}
 use Rattle.element.specs.Matches.{matches}
 use Rattle.element.specs.Contract.{ElementAt, HitAt}
+use Rattle.element.proofs.Laws.{Between, single-between, range-between, any-between}
 use Rattle.assign.specs.Rows.{bit, may, Plus}
 use Rattle.assign.proofs.Masks.{bit-none}
 use Rattle.plan.specs.Members.{memberHits}
 use Rattle.plan.specs.Blocks.{StandsAt, Standing}
 use Rattle.plan.specs.Contract.{RowsOf}
-use Rattle.plan.specs.Places.{MembersAt, RowTo}
+use Rattle.plan.specs.Places.{MembersAt, RowTo, RowWithin}
 
--- ---- one row
+-- ---- one row, bit by bit
 
-module _ (t : List ℕ) (at : ℕ) (xs : List ℤ) where
-  pub row-start : RowTo t at xs 0 0
-  row-start = record { right = λ e k rest q j l. absurd (omega arith); beyond = λ j l. bit-none j }
+-- the bits below n are made, each as `says` allows it; the others are clear
+pub record BitsTo (says : ℕ → Bool → Type 0) (n row : ℕ) : Type 0 where
+  pub right : (j : ℕ) → j < n → says j (bit row j)
+  pub beyond : (j : ℕ) → n ≤ j → bit row j ≡ false
 
-  module _ (n row : ℕ) (x : ℤ) (hit : Bool) (next : ℕ) (here : x ≡ getD xs n (pos 0)) (fits : SFits w32 x) (h : HitAt t at (toZ w32 (ofZ w32 x)) hit next) (r : RowTo t at xs n row) where
-    said : (e : Elem Leaf) (k : ℕ) (rest : List ℕ) → outermost leafHead (drop at t) ≡ got (counted e k) rest → hit ≡ matches e (getD xs n (pos 0))
-    said e k rest q = h .right e k rest q .0 ∙ ap (matches e) (toZ-ofZ fits ∙ here)
+pub bits-start : (says : ℕ → Bool → Type 0) → BitsTo says 0 0
+bits-start says = record { right = λ j l. absurd (omega arith); beyond = λ j l. bit-none j }
 
-    pub row-hit : (row′ : ℕ) → hit ≡ true → Plus (bit row) n (bit row′) → RowTo t at xs (n + 1) row′
-    row-hit row′ b p = record {
-      right = λ e k rest q j l.
-          ⊎-elim
-          (λ (i : j < n). p .other j (λ (z : j ≡ n). omega arith) ∙ r .right e k rest q j i)
-          (λ (i : n ≤ j). let z : j ≡ n = omega arith in rw z (p .self ∙ sym b ∙ said e k rest q))
-          (below j n);
-      beyond = λ j l. p .other j (λ (z : j ≡ n). omega arith) ∙ r .beyond j (omega arith);
-    }
+module _ (says : ℕ → Bool → Type 0) (n row : ℕ) (hit : Bool) (h : says n hit) (r : BitsTo says n row) where
+  pub bits-hit : (row′ : ℕ) → hit ≡ true → Plus (bit row) n (bit row′) → BitsTo says (n + 1) row′
+  bits-hit row′ b p = record {
+    right = λ j l.
+        ⊎-elim
+        (λ (i : j < n). subst (says j) (sym (p .other j (λ (z : j ≡ n). omega arith))) (r .right j i))
+        (λ (i : n ≤ j). let z : j ≡ n = omega arith in rw z (subst (says n) (b ∙ sym (p .self)) h))
+        (below j n);
+    beyond = λ j l. p .other j (λ (z : j ≡ n). omega arith) ∙ r .beyond j (omega arith);
+  }
 
-    pub row-miss : hit ≡ false → RowTo t at xs (n + 1) row
-    row-miss b = record {
-      right = λ e k rest q j l.
-          ⊎-elim
-          (λ (i : j < n). r .right e k rest q j i)
-          (λ (i : n ≤ j). let z : j ≡ n = omega arith in rw z (r .beyond n (omega arith) ∙ sym b ∙ said e k rest q))
-          (below j n);
-      beyond = λ j l. r .beyond j (omega arith);
-    }
+  pub bits-miss : hit ≡ false → BitsTo says (n + 1) row
+  bits-miss b = record {
+    right = λ j l.
+        ⊎-elim
+        (λ (i : j < n). r .right j i)
+        (λ (i : n ≤ j). let z : j ≡ n = omega arith in rw z (subst (says n) (b ∙ sym (r .beyond n (omega arith))) h))
+        (below j n);
+    beyond = λ j l. r .beyond j (omega arith);
+  }
+
+-- ---- what a bit says
+
+-- bit j says whether the element template at `at` matches element j
+abbrev pub Matched : List ℕ → ℕ → List ℤ → ℕ → Bool → Type 0
+Matched t at xs j b = (e : Elem Leaf) (k : ℕ) (rest : List ℕ) → outermost leafHead (drop at t) ≡ got (counted e k) rest → b ≡ matches e (getD xs j (pos 0))
+
+pub matched : (t : List ℕ) (at : ℕ) (xs : List ℤ) (n : ℕ) (x : ℤ) (hit : Bool) (next : ℕ) → x ≡ getD xs n (pos 0) → SFits w32 x
+    → HitAt t at (toZ w32 (ofZ w32 x)) hit next → Matched t at xs n hit
+matched t at xs n x hit next here fits h e k rest q = h .right e k rest q .0 ∙ ap (matches e) (toZ-ofZ fits ∙ here)
+
+pub row-matched : (t : List ℕ) (at : ℕ) (xs : List ℤ) (n row : ℕ) → BitsTo (Matched t at xs) n row → RowTo t at xs n row
+row-matched t at xs n row r = record { right = λ e k rest q j l. r .right j l e k rest q; beyond = r .beyond }
+
+-- bit j says whether element j, a 32-bit integer, lies between the bounds
+abbrev pub Inside : List ℤ → ℤ → ℤ → ℕ → Bool → Type 0
+Inside xs lower upper j b = Word (getD xs j (pos 0)) × (b ≡ (leZ lower (getD xs j (pos 0)) && leZ (getD xs j (pos 0)) upper))
+
+pub inside : (xs : List ℤ) (lower upper : ℤ) (n : ℕ) (x : ℤ) (hit : Bool) → x ≡ getD xs n (pos 0) → SFits w32 x
+    → hit ≡ (leZ lower (toZ w32 (ofZ w32 x)) && leZ (toZ w32 (ofZ w32 x)) upper) → Inside xs lower upper n hit
+inside xs lower upper n x hit here fits h = rw (sym here) (fits .sfits, h ∙ rw (toZ-ofZ fits))
+
+pub row-inside : (xs : List ℤ) (lower upper : ℤ) (n row : ℕ) → SFits w32 lower → SFits w32 upper
+    → BitsTo (Inside xs (toZ w32 (ofZ w32 lower)) (toZ w32 (ofZ w32 upper))) n row → RowWithin xs lower upper n row
+row-inside xs lower upper n row fl fu r = rw (sym (toZ-ofZ fl), sym (toZ-ofZ fu)) (record { words = λ j l. r .right j l .0; right = λ j l. r .right j l .1; beyond = r .beyond })
+
+-- ---- the row of a leaf
+
+module _ (t : List ℕ) (at : ℕ) (xs : List ℤ) (n row : ℕ) where
+  between-row : (lower upper : ℤ) → Between t at lower upper → RowWithin xs lower upper n row → RowTo t at xs n row
+  between-row lower upper b r = record {
+    right = λ e k rest q j l. r .right j l ∙ sym (b e k rest q (getD xs j (pos 0)) (r .words j l));
+    beyond = r .beyond;
+  }
+
+  module _ (w : ElementAt t at) where
+    -- a bound that was read goes into the row as the machine reads it back from its bits
+    pub single-row : (v : ℤ) → getD t at 0 ≡ 1 → SFits w32 v → v ≡ intAt t (at + 1) → RowWithin xs (toZ w32 (ofZ w32 v)) (toZ w32 (ofZ w32 v)) n row → RowTo t at xs n row
+    single-row v q f e r = between-row v v (rw e (single-between t at w q)) (rw (toZ-ofZ f) at r)
+
+    pub range-row : (v u : ℤ) → getD t at 0 ≡ 2 → SFits w32 v → SFits w32 u → v ≡ intAt t (at + 1) → u ≡ intAt t (at + 5)
+        → RowWithin xs (toZ w32 (ofZ w32 v)) (toZ w32 (ofZ w32 u)) n row → RowTo t at xs n row
+    range-row v u q f g d e r = between-row v u (rw (d, e) (range-between t at w q)) (rw (toZ-ofZ f, toZ-ofZ g) at r)
+
+    pub any-row : getD t at 0 ≡ 3 → RowWithin xs (negsuc 2147483647) (pos 2147483647) n row → RowTo t at xs n row
+    any-row q r = between-row (negsuc 2147483647) (pos 2147483647) (any-between t at w q) r
 
 -- ---- the members at their places
 

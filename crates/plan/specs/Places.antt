@@ -1,6 +1,8 @@
 -- What is known where the walk over an accepted template stands, and what its steps say. A place is an index into the bytes t.
 -- MembersAt t places members <-> an element template stands at each of the first `members` places
 -- RowTo t at xs n row <-> bit j of `row` says whether the element template at `at` matches element j of xs, for j below n; every other bit is clear
+-- RowWithin xs lower upper n row <-> bit j of `row` says whether element j of xs, a 32-bit integer, lies between the bounds, ends
+--                        included, for j below n; every other bit is clear
 -- GroupHere t at n m  <-> n items of a set of, permutation, superset or subset stand at `at`, with m members before them
 -- GroupWalked t at n m before next count min max after <-> what the walk over them gives: the place after them, the members so far, min
 --                        and max of their 20 (0 and 0 without one), and the places, now with theirs from m on
@@ -14,12 +16,14 @@
 -- BodyPlan t at low high p <-> p is the plan of the body at `at`, for lists of these lengths
 -- Assumes nothing: these are definitions.
 use mathlib.Core.Path.{_≡_}
-use mathlib.Core.Bool.{Bool, true, false, cond}
+use mathlib.Core.Bool.{Bool, true, false, cond, _&&_}
 use mathlib.Core.List.{List, [], _∷_, _++_}
 use Prim.Native.Nat.{ℕ, _+_, _≤_, _<_}
 use lib.Dec.{eqb}
 use lib.ListN.{length, getD, drop, take}
 use lib.IntN.{ℤ, pos}
+use lib.Signed.{leZ}
+use Rattle.words.specs.Integer.{Word}
 use Rattle.template.specs.Element.{Elem}
 use Rattle.template.specs.Template.{Star, noStar, Group, grouped, Item, Body, recordOf, setOf, superset, subset, Length, Template, template, membersOfGroup, membersOfItem}
 use Rattle.template.specs.Leaf.{Leaf, leafHead}
@@ -40,6 +44,11 @@ pub record MembersAt (t places : List ℕ) (members : ℕ) : Type 0 where
 pub record RowTo (t : List ℕ) (at : ℕ) (xs : List ℤ) (n row : ℕ) : Type 0 where
   pub right : (e : Elem Leaf) (k : ℕ) (rest : List ℕ) → outermost leafHead (drop at t) ≡ got (counted e k) rest
       → (j : ℕ) → j < n → bit row j ≡ matches e (getD xs j (pos 0))
+  pub beyond : (j : ℕ) → n ≤ j → bit row j ≡ false
+
+pub record RowWithin (xs : List ℤ) (lower upper : ℤ) (n row : ℕ) : Type 0 where
+  pub words : (j : ℕ) → j < n → Word (getD xs j (pos 0))
+  pub right : (j : ℕ) → j < n → bit row j ≡ (leZ lower (getD xs j (pos 0)) && leZ (getD xs j (pos 0)) upper)
   pub beyond : (j : ℕ) → n ≤ j → bit row j ≡ false
 
 pub record GroupHere (t : List ℕ) (at n m : ℕ) : Type 0 where

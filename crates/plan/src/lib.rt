@@ -8,11 +8,13 @@ ghost use Rattle.template.specs.Leaf.{Leaf};
 ghost use Rattle.element.specs.Contract.{ElementAt};
 ghost use Rattle.plan.specs.Blocks.{block, Standing};
 ghost use Rattle.plan.specs.Contract.{PlanOf, RowsOf};
-ghost use Rattle.plan.specs.Places.{MembersAt, RowTo};
+ghost use Rattle.plan.specs.Places.{MembersAt, RowTo, RowWithin};
 use assign::mask::with;
 use blocks::Block;
 use element::match_element;
 use template::whole::scan_template;
+use words::int_at;
+use words::within;
 
 mod walk; // the walk over an accepted template
 
@@ -28,8 +30,35 @@ pub struct Plan {
     pub places: [usize; 32],
 }
 
-// Which elements of the list the element template at `at` matches.
-fn row_of(t: &[u8], at: usize, list: &[i32]) -> u32
+const SINGLE: u8 = 0x01;
+
+const RANGE: u8 = 0x02;
+
+const ANY: u8 = 0x03;
+
+const LEAST: i32 = -2147483648;
+
+const MOST: i32 = 2147483647;
+
+// Which elements of the list lie between the bounds, both ends included.
+fn row_within(list: &[i32], lower: i32, upper: i32) -> u32
+    requires { ⌜ length (now list) ≤ 32 ⌝ }
+    ensures { λ r. ⌜ RowWithin (now (list .entry)) lower upper (length (now (list .entry))) r ⌝ }
+{
+    let mut row: u32 = 0;
+    let mut i: usize = 0;
+    while i < list.len() {
+        let x = list[i];
+        if within(x, lower, upper) {
+            row = with(row, i as u8);
+        }
+        i += 1;
+    }
+    row
+}
+
+// Which elements of the list the element template at `at` matches. Its bytes are walked over anew for each element.
+fn row_tested(t: &[u8], at: usize, list: &[i32]) -> u32
     requires { ⌜ ElementAt (now t) at × (length (now list) ≤ 32) ⌝ }
     ensures { λ r. ⌜ RowTo (now (t .entry)) at (now (list .entry)) (length (now (list .entry))) r ⌝ }
 {
@@ -44,6 +73,23 @@ fn row_of(t: &[u8], at: usize, list: &[i32]) -> u32
         e += 1;
     }
     row
+}
+
+// Which elements of the list the element template at `at` matches. A leaf is read once, for all of them.
+fn row_of(t: &[u8], at: usize, list: &[i32]) -> u32
+    requires { ⌜ ElementAt (now t) at × (length (now list) ≤ 32) ⌝ }
+    ensures { λ r. ⌜ RowTo (now (t .entry)) at (now (list .entry)) (length (now (list .entry))) r ⌝ }
+{
+    let kind = t[at];
+    match kind {
+        SINGLE => {
+            let x = int_at(t, at + 1);
+            row_within(list, x, x)
+        }
+        RANGE => row_within(list, int_at(t, at + 1), int_at(t, at + 5)),
+        ANY => row_within(list, LEAST, MOST),
+        _ => row_tested(t, at, list),
+    }
 }
 
 // Bit e of row m says whether the member at `places[m]` matches element e of the list.

@@ -1,82 +1,97 @@
--- `plan::row_of` meets its contract. The loop: the bits below e of the row are right and the others are clear. The measure is the
--- number of elements left. Assumes nothing.
-use mathlib.Core.Path.{_≡_, refl, sym, subst}
-use mathlib.Core.Logic.{⊎-elim}
-use Prim.Native.Nat.{ℕ, _+_, _-_, _≤_}
+-- `plan::row_of` meets its contract: the kind says which leaf stands there, and the leaf's bounds make the row. Assumes nothing.
 use native.Mathlib.Omega.{arith}
-use lib.ListN.{length}
+use Rattle.element.proofs.Laws.{kind-fits, single-fits, range-fits}
+use Rattle.plan.proofs.Rows.{single-row, range-row, any-row}
 use borrow.Author.Needs.{needs}
-use Rattle.plan.specs.Places.{RowTo}
-use Rattle.plan.proofs.Rows.{row-start, row-hit, row-miss}
 use Rattle.plan.proofs.row_of.Statement.{statement}
 use Rattle.plan.proofs.row_of.Tie as tie
 use Rattle.plan.proofs.row_of.Reads as reads
 use Rattle.plan.proofs.row_of.Lts as lts
-use Rattle.assign.proofs.mask.with.Reads as with-reads
-use Rattle.element.proofs.match_element.Reads as match-element-reads
+use Rattle.plan.proofs.row_tested.Reads as row-tested-reads
+use Rattle.plan.proofs.row_within.Reads as row-within-reads
+use Rattle.words.proofs.int_at.Reads as int-at-reads
 
-abbrev Inv-loop : tie.InvT-loop
-Inv-loop t at list row₀ e₀ row e = RowTo t at list e row × (e ≤ length list)
+shared-slice-read-kind : tie.Need-shared-slice-read-kind
+shared-slice-read-kind c =
+    let start = c .before .before in
+    omega (arith, kind-fits (start .args .t .now) (start .args .at) (start .pre .0))
 
-abbrev μ-loop : tie.MeasureT-loop
-μ-loop t at list row₀ e₀ row e = length list - e
+add-int-at : tie.Need-add-int-at
+add-int-at c = search needs
 
-loop-holds : tie.Need-loop-holds Inv-loop μ-loop
-loop-holds c =
-    let a = c .before .args in
-    (row-start (a .t .now) (a .at) (a .list .now), omega arith)
+int-at-requires : tie.Need-int-at-requires
+int-at-requires c κs =
+    let start = c .before .before .before in
+    omega (arith, single-fits (start .args .t .now) (start .args .at) (start .pre .0) (c .match .keys1))
 
-mul-x : tie.Need-mul-x Inv-loop μ-loop
-mul-x c = omega (arith, c .loop-test .taken, c .before .before .before .pre)
+row-within-requires : tie.Need-row-within-requires
+row-within-requires c κs = search needs
 
-shared-slice-copy-out-x : tie.Need-shared-slice-copy-out-x Inv-loop μ-loop
-shared-slice-copy-out-x c = omega (arith, c .loop-test .taken)
+add-int-at-2 : tie.Need-add-int-at-2
+add-int-at-2 c = search needs
 
-match-element-requires : tie.Need-match-element-requires Inv-loop μ-loop
-match-element-requires c κs = c .before .before .before .before .pre .0
+int-at-requires-2 : tie.Need-int-at-requires-2
+int-at-requires-2 c κs =
+    let start = c .before .before .before in
+    omega (arith, range-fits (start .args .t .now) (start .args .at) (start .pre .0) (c .match .keys2))
 
-cast-with : tie.Need-cast-with Inv-loop μ-loop
-cast-with c = omega (arith, c .before .before .before .loop-test .taken, c .before .before .before .before .before .before .pre .1)
+add-int-at-3 : tie.Need-add-int-at-3
+add-int-at-3 c = search needs
 
-with-requires : tie.Need-with-requires Inv-loop μ-loop
-with-requires c κs = omega (arith, c .before .before .before .loop-test .taken, c .before .before .before .before .before .before .pre .1)
+int-at-requires-3 : tie.Need-int-at-requires-3
+int-at-requires-3 c κs =
+    let start = c .before .before .before .before in
+    omega (arith, range-fits (start .args .t .now) (start .args .at) (start .pre .0) (c .before .match .keys2))
 
-add-e : tie.Need-add-e Inv-loop μ-loop
-add-e c = omega (arith, c .before .before .before .loop-test .taken, c .before .before .before .before .before .before .pre .1)
+row-within-requires-2 : tie.Need-row-within-requires-2
+row-within-requires-2 c κs = search needs
 
-loop-less : tie.Need-loop-less Inv-loop μ-loop
-loop-less c = omega (arith, c .before .before .before .loop-test .taken)
+row-within-requires-3 : tie.Need-row-within-requires-3
+row-within-requires-3 c κs = search needs
 
-loop-again : tie.Need-loop-again Inv-loop μ-loop
-loop-again c =
-    let a = c .before .before .before .before .before .before .args in
-    let again : ℕ → Type 0 = λ row. RowTo (a .t .now) (a .at) (a .list .now) (c .before .before .before .before .loop .e + 1) row in (
-      ⊎-elim
-          (λ w. subst again (sym (w .2)) (row-hit (a .t .now) (a .at) (a .list .now) (c .before .before .before .before .loop .e) _ _ _ _ refl (record { sfits = c .before .before .x .given }) (c .before .match-element .ensures) (c .before .before .before .before .loop .inv .0) _ (w .0 .taken) (w .1 .ensures)))
-          (λ w. subst again (sym (w .1)) (row-miss (a .t .now) (a .at) (a .list .now) (c .before .before .before .before .loop .e) _ _ _ _ refl (record { sfits = c .before .before .x .given }) (c .before .match-element .ensures) (c .before .before .before .before .loop .inv .0) (w .0 .left)))
-          (c .if1 .came),
-      omega (arith, c .before .before .before .loop-test .taken),
-    )
+row-tested-requires : tie.Need-row-tested-requires
+row-tested-requires c κs = search needs
 
-returns : tie.Need-returns Inv-loop μ-loop
+returns : tie.Need-returns
 returns c =
-    let a = c .before .before .before .args in
-    let z : c .before .loop .e ≡ length (a .list .now) = omega (arith, c .loop-test .left, c .before .loop .inv .1) in
-    subst (λ (n : ℕ). RowTo (a .t .now) (a .at) (a .list .now) n (c .before .loop .row)) z (c .before .loop .inv .0)
+    let at-int = c .before in
+    let start = at-int .before .before .before .before in
+    let a = start .args in
+    single-row (a .t .now) (a .at) (a .list .now) _ _ (start .pre .0) _ (at-int .before .match .keys1) (record { sfits = at-int .int-at .ok }) (at-int .int-at .ensures) (c .row-within .ensures)
+
+returns-2 : tie.Need-returns-2
+returns-2 c =
+    let at-upper = c .before in
+    let at-lower = at-upper .before in
+    let start = at-lower .before .before .before .before in
+    let a = start .args in
+    range-row (a .t .now) (a .at) (a .list .now) _ _ (start .pre .0) _ _ (at-lower .before .match .keys2) (record { sfits = at-lower .int-at2 .ok }) (record { sfits = at-upper .int-at3 .ok }) (at-lower .int-at2 .ensures) (at-upper .int-at3 .ensures) (c .row-within2 .ensures)
+
+returns-3 : tie.Need-returns-3
+returns-3 c =
+    let start = c .before .before .before .before in
+    let a = start .args in
+    any-row (a .t .now) (a .at) (a .list .now) _ _ (start .pre .0) (c .before .match .keys3) (c .row-within3 .ensures)
+
+returns-4 : tie.Need-returns-4
+returns-4 c = search needs
 
 pub row-of-spec : {M : Type 1} → statement M
 row-of-spec =
     tie.close
     (tie.spec
-    Inv-loop
-    μ-loop
-    loop-holds
-    mul-x
-    shared-slice-copy-out-x
-    match-element-requires
-    cast-with
-    with-requires
-    add-e
-    loop-less
-    loop-again
-    returns)
+    shared-slice-read-kind
+    add-int-at
+    int-at-requires
+    row-within-requires
+    add-int-at-2
+    int-at-requires-2
+    add-int-at-3
+    int-at-requires-3
+    row-within-requires-2
+    row-within-requires-3
+    row-tested-requires
+    returns
+    returns-2
+    returns-3
+    returns-4)
