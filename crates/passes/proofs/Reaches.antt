@@ -6,11 +6,12 @@ use mathlib.Core.List.{List, [], _∷_, _++_}
 use Prim.Native.Nat.{ℕ, zero, suc, _+_, _-_, _≤_, _<_}
 use native.Mathlib.Numerals.{add-one}
 use native.Mathlib.Omega.{arith}
-use lib.ListN.{length, getD, set, take, drop, replicate, length-replicate, getD-replicate, length-set, length-take, take-append-drop}
-use lib.Seq.{slice, take-suc, take-take, take-at, drop-at, take-length, getD-set-same, getD-set-other}
+use lib.ListN.{length, getD, take, drop, take-append-drop}
+use lib.Seq.{slice, take-suc, take-take, take-at, drop-at, take-length}
 use Rattle.assign.specs.Order.{Joins}
-use Rattle.assign.specs.Assignment.{Assigns}
-use Rattle.assign.proofs.Lemmas.{same?, below?, holds?, clash}
+use Rattle.assign.specs.Rows.{bit, Plus}
+use Rattle.assign.proofs.Lemmas.{same?, below?, holds?}
+use Rattle.assign.proofs.Masks.{bit-none}
 use Rattle.blocks.specs.declared.Block.{Block}
 use Rattle.cuts.specs.Cut.{Takes, Cuts, Inside, Passing}
 use Rattle.passes.specs.Reach.{Reached}
@@ -25,32 +26,30 @@ none-later : (rows w : List ℕ) (p : ℕ) → (p ≡ 0 → ⊥) → Passing (Cu
 unfolding Cuts
 none-later rows w p n = passing-false (λ c. n (sym (c .0)))
 
-pub reached-start : (w : List ℕ) → length w ≤ 32 → (rows : List ℕ) → Reached rows [] w (set (replicate 33 false) 0 true)
-reached-start w h rows =
-    let long = length-replicate {A = Bool} 33 false in
+pub reached-start : {reach : ℕ} → Plus (bit 0) 0 (bit reach) → (rows w : List ℕ) → Reached rows [] w reach
+reached-start {reach} one rows w =
+    let clear : (p : ℕ) → (p ≡ 0 → ⊥) → bit reach p ≡ false = λ p n. one .other p n ∙ bit-none p in
     record {
-      size = length-set (replicate 33 false) 0 true ∙ long;
       at = λ p l. ⊎-elim
-          (λ (q : p ≡ 0). subst (λ (x : ℕ). Passing (Cuts rows [] 0 x (take x w)) (getD (set (replicate 33 false) 0 true) x false)) (sym q)
-          (subst (λ (t : Bool). Passing (Cuts rows [] 0 0 (take 0 w)) t) (sym (getD-set-same (replicate 33 false) 0 true false (omega arith))) (none-start rows w)))
-          (λ (q : p ≡ 0 → ⊥).
-          let e : getD (set (replicate 33 false) 0 true) p false ≡ false = getD-set-other (replicate 33 false) 0 p true false q ∙ getD-replicate {A = Bool} 33 p false false (omega arith) in
-          subst (λ (t : Bool). Passing (Cuts rows [] 0 p (take p w)) t) (sym e) (none-later rows w p q))
+          (λ (q : p ≡ 0). subst (λ (x : ℕ). Passing (Cuts rows [] 0 x (take x w)) (bit reach x)) (sym q)
+          (subst (λ (t : Bool). Passing (Cuts rows [] 0 0 (take 0 w)) t) (sym (one .self)) (none-start rows w)))
+          (λ (q : p ≡ 0 → ⊥). subst (λ (t : Bool). Passing (Cuts rows [] 0 p (take p w)) t) (sym (clear p q)) (none-later rows w p q))
           (same? p 0);
+      outside = λ p l. clear p (λ q. omega arith);
     }
 
 -- ---- one end: no piece of b begins at a place before `from` that is reached
-pub record Barred (rows : List ℕ) (b : Block) (reach : List Bool) (w : List ℕ) (to from : ℕ) : Type 0 where
-  pub none : (p : ℕ) → p < from → p ≤ to → getD reach p false ≡ true → Takes rows b p to (slice p to w) → ⊥
+pub record Barred (rows : List ℕ) (b : Block) (reach : ℕ) (w : List ℕ) (to from : ℕ) : Type 0 where
+  pub none : (p : ℕ) → p < from → p ≤ to → bit reach p ≡ true → Takes rows b p to (slice p to w) → ⊥
 
-module _ {rows : List ℕ} {b : Block} {reach : List Bool} {w : List ℕ} {to : ℕ} where
+module _ {rows : List ℕ} {b : Block} {reach : ℕ} {w : List ℕ} {to : ℕ} where
   pub barred-start : (from : ℕ) → from ≡ to - (b .k + b .max) → Barred rows b reach w to from
   barred-start from q = record { none = λ p l k r t. let x = t .few in omega arith }
 
-  pub barred-step : {from : ℕ} → Barred rows b reach w to from → (getD reach from false ≡ true → Takes rows b from to (slice from to w) → ⊥) → Barred rows b reach w to (from + 1)
+  pub barred-step : {from : ℕ} → Barred rows b reach w to from → (bit reach from ≡ true → Takes rows b from to (slice from to w) → ⊥) → Barred rows b reach w to (from + 1)
   barred-step {from} g h = record {
     none = λ p l k r t. ⊎-elim
-        (λ (q : p ≡ from). h (subst (λ (x : ℕ). getD reach x false ≡ true) q r) (subst (λ (x : ℕ). Takes rows b x to (slice x to w)) q t))
+        (λ (q : p ≡ from). h (subst (λ (x : ℕ). bit reach x ≡ true) q r) (subst (λ (x : ℕ). Takes rows b x to (slice x to w)) q t))
         (λ (q : p ≡ from → ⊥). g .none p (omega arith) k r t)
         (same? p from);
   }
@@ -69,8 +68,8 @@ left-part to mid w u v l q n = sym (take-at u v mid n) ∙ ap (λ (x : List ℕ)
 right-part : (to mid : ℕ) (w u v : List ℕ) → take to w ≡ u ++ v → length u ≡ mid → v ≡ slice mid to w
 right-part to mid w u v q n = sym (drop-at u v mid n) ∙ ap (λ (x : List ℕ). drop mid x) (sym q)
 
-module _ {rows : List ℕ} {bs : List Block} {b : Block} {reach : List Bool} {w : List ℕ} {to : ℕ} (g : Reached rows bs w reach) (end : to ≤ length w) where
-  pub ends-true : {from : ℕ} → from ≤ to → getD reach from false ≡ true → Takes rows b from to (slice from to w) → Passing (Cuts rows (bs ++ (b ∷ [])) 0 to (take to w)) true
+module _ {rows : List ℕ} {bs : List Block} {b : Block} {reach : ℕ} {w : List ℕ} {to : ℕ} (g : Reached rows bs w reach) (end : to ≤ length w) where
+  pub ends-true : {from : ℕ} → from ≤ to → bit reach from ≡ true → Takes rows b from to (slice from to w) → Passing (Cuts rows (bs ++ (b ∷ [])) 0 to (take to w)) true
   ends-true {from} l r t =
       let whole : take to w ≡ take from w ++ slice from to w = sym (take-append-drop from (take to w)) ∙ ap (λ (x : List ℕ). x ++ slice from to w) (take-take from to w l) in
       passing-true (subst (λ (x : List ℕ). Cuts rows (bs ++ (b ∷ [])) 0 to x) (sym whole)
@@ -85,41 +84,50 @@ module _ {rows : List ℕ} {bs : List Block} {b : Block} {reach : List Bool} {w 
       let n : length (j .left) ≡ m = cuts-length rows bs 0 m (j .left) (j .onLeft) ∙ omega arith in
       let c : Cuts rows bs 0 m (take m w) = subst (λ (x : List ℕ). Cuts rows bs 0 m x) (left-part to m w (j .left) (j .right) k (j .whole) n) (j .onLeft) in
       let t : Takes rows b m to (slice m to w) = subst (λ (x : List ℕ). Takes rows b m to x) (right-part to m w (j .left) (j .right) (j .whole) n) (j .onRight) in
-      h .none m (omega arith) k (⊎-elim (λ (y : getD reach m false ≡ true). y) (λ (y : getD reach m false ≡ false). absurd (g .at m (omega arith) .failed y c)) (holds? (getD reach m false))) t
+      h .none m (omega arith) k (⊎-elim (λ (y : bit reach m ≡ true). y) (λ (y : bit reach m ≡ false). absurd (g .at m (omega arith) .failed y c)) (holds? (bit reach m))) t
 
   pub ends-false : Barred rows b reach w to (to + 1) → Passing (Cuts rows (bs ++ (b ∷ [])) 0 to (take to w)) false
   ends-false h = passing-false (λ c. ended-barred h (cuts-unsnoc rows bs b 0 to (take to w) c))
 
 -- ---- all ends before `to`
-pub record Extended (rows : List ℕ) (bs : List Block) (w : List ℕ) (to : ℕ) (next : List Bool) : Type 0 where
-  pub size : length next ≡ 33
-  pub at : (p : ℕ) → p < to → p ≤ length w → Passing (Cuts rows bs 0 p (take p w)) (getD next p false)
+pub record Extended (rows : List ℕ) (bs : List Block) (w : List ℕ) (to next : ℕ) : Type 0 where
+  pub at : (p : ℕ) → p < to → p ≤ length w → Passing (Cuts rows bs 0 p (take p w)) (bit next p)
+  pub outside : (p : ℕ) → to ≤ p → bit next p ≡ false
 
-pub extended-start : (rows : List ℕ) (bs : List Block) (w : List ℕ) → Extended rows bs w 0 (replicate 33 false)
-extended-start rows bs w = record { size = length-replicate {A = Bool} 33 false; at = λ p l. absurd (omega arith) }
+pub extended-start : (rows : List ℕ) (bs : List Block) (w : List ℕ) → Extended rows bs w 0 0
+extended-start rows bs w = record { at = λ p l. absurd (omega arith); outside = λ p l. bit-none p }
 
-pub extended-step : {rows : List ℕ} {bs : List Block} {w : List ℕ} {to : ℕ} {next : List Bool} {r : Bool} → to ≤ 32 → Extended rows bs w to next
-    → Passing (Cuts rows bs 0 to (take to w)) r → Extended rows bs w (to + 1) (set next to r)
-extended-step {rows} {bs} {w} {to} {next} {r} h g new =
-    let long = g .size in
-    record {
-      size = length-set next to r ∙ long;
-      at = λ p l k. ⊎-elim
-          (λ (q : p ≡ to). subst (λ (x : ℕ). Passing (Cuts rows bs 0 x (take x w)) (getD (set next to r) x false)) (sym q)
-          (subst (λ (t : Bool). Passing (Cuts rows bs 0 to (take to w)) t) (sym (getD-set-same next to r false (omega arith))) new))
-          (λ (q : p ≡ to → ⊥). subst (λ (t : Bool). Passing (Cuts rows bs 0 p (take p w)) t) (sym (getD-set-other next to p r false q)) (g .at p (omega arith) k))
-          (same? p to);
-    }
+module _ {rows : List ℕ} {bs : List Block} {w : List ℕ} {to next : ℕ} (g : Extended rows bs w to next) where
+  pub extended-in : {more : ℕ} → Cuts rows bs 0 to (take to w) → Plus (bit next) to (bit more) → Extended rows bs w (to + 1) more
+  extended-in {more} new one = record {
+    at = λ p l k. ⊎-elim
+        (λ (q : p ≡ to). subst (λ (x : ℕ). Passing (Cuts rows bs 0 x (take x w)) (bit more x)) (sym q)
+        (subst (λ (t : Bool). Passing (Cuts rows bs 0 to (take to w)) t) (sym (one .self)) (passing-true new)))
+        (λ (q : p ≡ to → ⊥). subst (λ (t : Bool). Passing (Cuts rows bs 0 p (take p w)) t) (sym (one .other p q)) (g .at p (omega arith) k))
+        (same? p to);
+    outside = λ p l. one .other p (λ q. omega arith) ∙ g .outside p (omega arith);
+  }
 
-pub extended-end : {rows : List ℕ} {bs : List Block} {w : List ℕ} {to : ℕ} {next : List Bool} → length w < to → Extended rows bs w to next → Reached rows bs w next
-extended-end l g = record { size = g .size; at = λ p k. g .at p (omega arith) k }
+  pub extended-out : (Cuts rows bs 0 to (take to w) → ⊥) → Extended rows bs w (to + 1) next
+  extended-out new = record {
+    at = λ p l k. ⊎-elim
+        (λ (q : p ≡ to). subst (λ (x : ℕ). Passing (Cuts rows bs 0 x (take x w)) (bit next x)) (sym q)
+        (subst (λ (t : Bool). Passing (Cuts rows bs 0 to (take to w)) t) (sym (g .outside to (omega arith))) (passing-false new)))
+        (λ (q : p ≡ to → ⊥). g .at p (omega arith) k)
+        (same? p to);
+    outside = λ p l. g .outside p (omega arith);
+  }
+
+  pub extended-end : to ≡ length w + 1 → Reached rows bs w next
+  extended-end q = record { at = λ p k. g .at p (omega arith) k; outside = λ p k. g .outside p (omega arith) }
 
 -- ---- all blocks
-pub reached-more : {rows : List ℕ} (blocks : List Block) {w : List ℕ} {reach : List Bool} (d : Block) (j : ℕ) → j < length blocks
+pub reached-more : {rows : List ℕ} (blocks : List Block) {w : List ℕ} {reach : ℕ} (d : Block) (j : ℕ) → j < length blocks
     → Reached rows (take j blocks ++ (getD blocks j d ∷ [])) w reach → Reached rows (take (j + 1) blocks) w reach
 reached-more {rows} blocks {w} {reach} d j l g =
     subst (λ (bs : List Block). Reached rows bs w reach) (sym (ap (λ (i : ℕ). take i blocks) (add-one j) ∙ take-suc blocks j d l)) g
 
-pub reached-end : {rows : List ℕ} {bs : List Block} {w : List ℕ} {reach : List Bool} → Reached rows bs w reach → Passing (Cuts rows bs 0 (length w) w) (getD reach (length w) false)
-reached-end {rows} {bs} {w} {reach} g =
-    subst (λ (x : List ℕ). Passing (Cuts rows bs 0 (length w) x) (getD reach (length w) false)) (take-length w) (g .at (length w) (omega arith))
+pub reached-end : {rows : List ℕ} {bs : List Block} {w : List ℕ} {reach : ℕ} {r : Bool} → Reached rows bs w reach → r ≡ bit reach (length w) → Passing (Cuts rows bs 0 (length w) w) r
+reached-end {rows} {bs} {w} {reach} g q =
+    subst (λ (t : Bool). Passing (Cuts rows bs 0 (length w) w) t) (sym q)
+    (subst (λ (x : List ℕ). Passing (Cuts rows bs 0 (length w) x) (bit reach (length w))) (take-length w) (g .at (length w) (omega arith)))

@@ -1,5 +1,5 @@
 -- The places that the blocks so far reach in an offered list: what the functions behind `cut_passes` give.
--- Reached rows bs w reach  <-> reach says of each place p whether the blocks bs cut the first p bytes of w
+-- Reached rows bs w reach  <-> the mask `reach` has each place p of w for which the blocks bs cut the first p bytes of w, and no other
 -- Fresh rows b members e x <-> x is a member of the block b that may take the element e, and is not among the members
 -- Good rows b from to w members <-> the bytes from .. to - 1 of w are right for b, no member stands twice, and those that stand there are the members
 -- Sees rows b from to w right members <-> right says whether that can be, and then the members are these
@@ -16,9 +16,9 @@ use Rattle.assign.specs.Assignment.{takes, Assigns}
 use Rattle.blocks.specs.declared.Block.{Block}
 use Rattle.cuts.specs.Cut.{Cuts, Passing}
 
-pub record Reached (rows : List ℕ) (bs : List Block) (w : List ℕ) (reach : List Bool) : Type 0 where
-  pub size : length reach ≡ 33
-  pub at : (p : ℕ) → p ≤ length w → Passing (Cuts rows bs 0 p (take p w)) (getD reach p false)
+pub record Reached (rows : List ℕ) (bs : List Block) (w : List ℕ) (reach : ℕ) : Type 0 where
+  pub at : (p : ℕ) → p ≤ length w → Passing (Cuts rows bs 0 p (take p w)) (bit reach p)
+  pub outside : (p : ℕ) → length w < p → bit reach p ≡ false
 
 pub record Fresh (rows : List ℕ) (b : Block) (members e x : ℕ) : Type 0 where
   pub inside : between (b .first) (b .first + b .k) x ≡ true

@@ -9,6 +9,8 @@ ghost use Rattle.blocks.specs.declared.Block.{Block as BlockOf};
 ghost use Rattle.cuts.specs.Cut.{Cuts, Passing};
 ghost use Rattle.passes.specs.Reach.{Reached, Fresh, Sees, Whole};
 use crate::SPARE;
+use crate::places::has_place;
+use crate::places::with_place;
 use assign::mask::has;
 use assign::mask::with;
 use assign::rows::may_take;
@@ -99,14 +101,14 @@ fn first_start(b: Block, to: usize) -> usize
 }
 
 // Whether the blocks so far and b cut the first `to` bytes: b's piece begins at a place that is reached.
-fn ends(rows: &[u32; 32], b: Block, reach: [bool; 33], w: &[u8], to: usize) -> bool
+fn ends(rows: &[u32; 32], b: Block, reach: u64, w: &[u8], to: usize) -> bool
     requires { ⌜ (b .first + b .k ≤ 32) × (to ≤ length (now w)) × (length (now w) ≤ 32) ⌝ }
     ensures { λ r. ⌜ ((bs : List BlockOf) → Reached (now (rows .entry)) bs (now (w .entry)) reach → Passing (Cuts (now (rows .entry)) (bs ++ (b ∷ [])) 0 to (take to (now (w .entry)))) r) ⌝ }
 {
     let shortest = b.k as usize + b.min as usize;
     let mut from = first_start(b, to);
     while from + shortest <= to {
-        if reach[from] {
+        if has_place(reach, from) {
             if piece_passes(rows, b, w, from, to) {
                 return true;
             }
@@ -117,26 +119,24 @@ fn ends(rows: &[u32; 32], b: Block, reach: [bool; 33], w: &[u8], to: usize) -> b
 }
 
 // The places that are reached with one block more.
-pub fn extend(rows: &[u32; 32], b: Block, reach: [bool; 33], w: &[u8]) -> [bool; 33]
+pub fn extend(rows: &[u32; 32], b: Block, reach: u64, w: &[u8]) -> u64
     requires { ⌜ (b .first + b .k ≤ 32) × (length (now w) ≤ 32) ⌝ }
     ensures { λ r. ⌜ ((bs : List BlockOf) → Reached (now (rows .entry)) bs (now (w .entry)) reach → Reached (now (rows .entry)) (bs ++ (b ∷ [])) (now (w .entry)) r) ⌝ }
 {
-    let mut next = [false; 33];
+    let mut next: u64 = 0;
     let mut to = 0;
     while to <= w.len() {
-        let reached = ends(rows, b, reach, w, to);
-        next[to] = reached;
+        if ends(rows, b, reach, w, to) {
+            next = with_place(next, to);
+        }
         to += 1;
     }
     next
 }
 
 // No blocks reach the place 0 only.
-pub fn start(w: &[u8]) -> [bool; 33]
-    requires { ⌜ length (now w) ≤ 32 ⌝ }
-    ensures { λ r. ⌜ ((rows : List ℕ) → Reached rows [] (now (w .entry)) r) ⌝ }
+pub fn start() -> u64
+    ensures { λ r. ⌜ ((rows w : List ℕ) → Reached rows [] w r) ⌝ }
 {
-    let mut reach = [false; 33];
-    reach[0] = true;
-    reach
+    with_place(0, 0)
 }

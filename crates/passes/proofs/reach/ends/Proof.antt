@@ -11,14 +11,15 @@ use Rattle.passes.proofs.reach.ends.Statement.{statement}
 use Rattle.passes.proofs.reach.ends.Tie as tie
 use Rattle.passes.proofs.reach.ends.Reads as reads
 use Rattle.passes.proofs.reach.ends.Lts as lts
+use Rattle.passes.proofs.places.has_place.Reads as has-place-reads
 use Rattle.passes.proofs.reach.first_start.Reads as first-start-reads
 use Rattle.passes.proofs.reach.piece_passes.Reads as piece-passes-reads
 
 abbrev Inv-loop : tie.InvT-loop
-Inv-loop rows b w to reach shortest from₀ from = (shortest ≡ b .k + b .min) × (to - (b .k + b .max) ≤ from) × (from ≤ to + 1) × Barred rows b reach w to from
+Inv-loop rows b reach w to shortest from₀ from = (shortest ≡ b .k + b .min) × (to - (b .k + b .max) ≤ from) × (from ≤ to + 1) × Barred rows b reach w to from
 
 abbrev μ-loop : tie.MeasureT-loop
-μ-loop rows b w to reach shortest from₀ from = (to + 1) - from
+μ-loop rows b reach w to shortest from₀ from = (to + 1) - from
 
 cast-shortest : tie.Need-cast-shortest Inv-loop μ-loop
 cast-shortest c = search needs
@@ -38,16 +39,16 @@ loop-holds c = (refl, omega arith, omega arith, barred-start _ (c .first-start .
 add-loop : tie.Need-add-loop Inv-loop μ-loop
 add-loop c = omega arith
 
-array-read-if1 : tie.Need-array-read-if1 Inv-loop μ-loop
-array-read-if1 c = omega arith
+has-place-requires : tie.Need-has-place-requires Inv-loop μ-loop
+has-place-requires c κs = omega arith
 
 piece-passes-requires : tie.Need-piece-passes-requires Inv-loop μ-loop
 piece-passes-requires c κs =
-    (c .before .before .before .before .before .before .before .pre .0, omega arith, c .before .before .before .before .before .before .before .pre .1, c .before .before .before .before .before .before .before .pre .2)
+    let p = c .before .before .before .before .before .before .before .before .pre in (p .0, omega arith, p .1, p .2)
 
 returns : tie.Need-returns Inv-loop μ-loop
 returns c =
-    let i = c .before .before .before .before .loop .inv in λ bs g. ends-true g (c .before .before .before .before .before .before .before .before .before .pre .1) (omega arith) (c .before .before .if1 .taken) (record { assigned = c .before .piece-passes .ensures .passed (c .if2 .taken); enough = omega arith; few = omega arith })
+    let i = c .before .before .before .before .before .loop .inv in λ bs g. ends-true g (c .before .before .before .before .before .before .before .before .before .before .pre .1) (omega arith) (sym (c .before .before .before .has-place .ensures) ∙ c .before .before .if1 .taken) (record { assigned = c .before .piece-passes .ensures .passed (c .if2 .taken); enough = omega arith; few = omega arith })
 
 add-from : tie.Need-add-from Inv-loop μ-loop
 add-from c = omega arith
@@ -57,13 +58,13 @@ loop-less c = omega arith
 
 loop-again : tie.Need-loop-again Inv-loop μ-loop
 loop-again c =
-    let i = c .before .before .loop .inv in (
+    let i = c .before .before .before .loop .inv in (
       i .0,
       omega arith,
       omega arith,
       barred-step (i .3) (λ r t. ⊎-elim
           (λ v. v .1 .ensures .failed (v .2 .left) (t .assigned))
-          (λ v. clash r (v .left))
+          (λ v. clash r (sym (c .before .has-place .ensures) ∙ v .left))
           (c .if1 .came)),
     )
 
@@ -82,7 +83,7 @@ ends-spec =
     first-start-requires
     loop-holds
     add-loop
-    array-read-if1
+    has-place-requires
     piece-passes-requires
     returns
     add-from
