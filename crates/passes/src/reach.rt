@@ -55,7 +55,7 @@ fn last_end(b: Block, from: usize, n: usize) -> usize
     if most < n { most } else { n }
 }
 
-// The ends, with `to` where the piece from .. to - 1, in which these members stand, has all members of b and as many elements as b asks.
+// The ends, with `to` where the piece from .. to - 1, in which these members stand, has all members of b and no fewer elements than b asks.
 fn mark(b: Block, all: u32, members: u32, from: usize, to: usize, ends: u64) -> u64
     requires { ⌜ (from ≤ to) × (to ≤ 32) ⌝ }
     ensures { λ r. ⌜ Marked (Whole b all members from to) ends to r ⌝ }
@@ -110,7 +110,7 @@ pub fn extend(rows: &[u32; 32], b: Block, reach: u64, w: &[u8]) -> u64
     next
 }
 
-// No blocks reach the place 0 only.
+// With no blocks the place 0 is reached, and no other.
 pub fn start() -> u64
     ensures { λ r. ⌜ ((rows w : List ℕ) → Reached rows [] w r) ⌝ }
 {

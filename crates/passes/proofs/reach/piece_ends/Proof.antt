@@ -8,7 +8,7 @@ use lib.ListN.{length}
 use borrow.Author.Tests.{not-true, not-false}
 use Rattle.passes.specs.Reach.{Good, Ends}
 use Rattle.passes.proofs.Seen.{good-start, good-spare, good-member, fresh-below}
-use Rattle.passes.proofs.Reaches.{ends-start, ends-mark, ends-stop, ends-last}
+use Rattle.passes.proofs.Walks.{ends-start, ends-mark, ends-stop, ends-last}
 use Rattle.passes.proofs.reach.piece_ends.Statement.{statement}
 use Rattle.passes.proofs.reach.piece_ends.Tie as tie
 use Rattle.passes.proofs.reach.piece_ends.Reads as reads
