@@ -99,20 +99,21 @@ pub bit-none : (k : ℕ) → bit 0 k ≡ false
 unfolding bit
 bit-none k = ap (λ (n : ℕ). eqb (n % 2) 1) (zero-div (2 ^ k))
 
-one-shl : (k : ℕ) → k < 32 → 1 * 2 ^ k % 2 ^ 32 ≡ 2 ^ k
-one-shl k h = shl-exact 1 k 32 (lit< tt) (omega arith) ∙ one-mul (2 ^ k)
+-- a one moved by less than the width n
+one-shl : {n : ℕ} (k : ℕ) → k < n → 1 * 2 ^ k % 2 ^ n ≡ 2 ^ k
+one-shl {n} k h = shl-exact 1 k n (lit< tt) (omega arith) ∙ one-mul (2 ^ k)
 
--- ---- what `with`, `flip` and `lowest` compute
-pub bit-with : (a k : ℕ) → k < 32 → Plus (bit a) k (bit (bitOr a (1 * 2 ^ k % 2 ^ 32)))
-bit-with a k h =
+-- ---- what `with`, `flip` and `lowest` compute; the first two at any width n
+pub bit-with : {n : ℕ} (a k : ℕ) → k < n → Plus (bit a) k (bit (bitOr a (1 * 2 ^ k % 2 ^ n)))
+bit-with {n} a k h =
     let one = one-shl k h in
     record {
       self = rw (one, bit-or, pow-self k) (or-true (bit a k));
       other = λ j n. rw (one, bit-or, pow-other k j n) (or-false (bit a j));
     }
 
-pub bit-flip : (a k : ℕ) → k < 32 → Flipped (bit a) k (bit (bitXor a (1 * 2 ^ k % 2 ^ 32)))
-bit-flip a k h =
+pub bit-flip : {n : ℕ} (a k : ℕ) → k < n → Flipped (bit a) k (bit (bitXor a (1 * 2 ^ k % 2 ^ n)))
+bit-flip {n} a k h =
     let one = one-shl k h in
     record {
       self = rw (one, bit-xor, pow-self k);

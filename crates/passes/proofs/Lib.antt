@@ -1,4 +1,5 @@
 pub mod Seen
+pub mod Walks
 pub mod Reaches
 pub mod Fulls
 pub mod Unique

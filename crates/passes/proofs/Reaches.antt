@@ -1,19 +1,19 @@
 -- The places that the blocks so far reach, one block more at a time. Assumes nothing.
-use mathlib.Core.Path.{_≡_, refl, sym, ap, ap₂, _∙_, subst}
-use mathlib.Core.Logic.{_⊎_, inl, inr, ⊎-elim}
+use mathlib.Core.Path.{_≡_, refl, sym, ap, _∙_, subst}
+use mathlib.Core.Logic.{⊎-elim}
 use mathlib.Core.Bool.{Bool, true, false}
 use mathlib.Core.List.{List, [], _∷_, _++_}
-use Prim.Native.Nat.{ℕ, zero, suc, _+_, _-_, _≤_, _<_}
+use Prim.Native.Nat.{ℕ, _+_, _≤_, _<_}
 use native.Mathlib.Numerals.{add-one}
 use native.Mathlib.Omega.{arith}
-use lib.ListN.{length, getD, set, take, drop, replicate, length-replicate, getD-replicate, length-set, length-take, take-append-drop}
-use lib.Seq.{slice, take-suc, take-take, take-at, drop-at, take-length, getD-set-same, getD-set-other}
-use Rattle.assign.specs.Order.{Joins}
-use Rattle.assign.specs.Assignment.{Assigns}
-use Rattle.assign.proofs.Lemmas.{same?, below?, holds?, clash}
+use lib.ListN.{length, getD, take, drop, take-append-drop}
+use lib.Seq.{slice, take-suc, take-take, take-at, drop-at, take-length}
+use Rattle.assign.specs.Rows.{bit, Plus}
+use Rattle.assign.proofs.Lemmas.{same?, holds?, clash}
+use Rattle.assign.proofs.Masks.{bit-none}
 use Rattle.blocks.specs.declared.Block.{Block}
-use Rattle.cuts.specs.Cut.{Takes, Cuts, Inside, Passing}
-use Rattle.passes.specs.Reach.{Reached}
+use Rattle.cuts.specs.Cut.{Takes, Cuts, Passing}
+use Rattle.passes.specs.Reach.{Reached, Ends}
 use Rattle.cuts.proofs.Laws.{passing-true, passing-false, cuts-length, cuts-snoc, Ended, cuts-unsnoc}
 
 -- ---- no blocks
@@ -25,42 +25,17 @@ none-later : (rows w : List ℕ) (p : ℕ) → (p ≡ 0 → ⊥) → Passing (Cu
 unfolding Cuts
 none-later rows w p n = passing-false (λ c. n (sym (c .0)))
 
-pub reached-start : (w : List ℕ) → length w ≤ 32 → (rows : List ℕ) → Reached rows [] w (set (replicate 33 false) 0 true)
-reached-start w h rows =
-    let long = length-replicate {A = Bool} 33 false in
+pub reached-start : {reach : ℕ} → Plus (bit 0) 0 (bit reach) → (rows w : List ℕ) → Reached rows [] w reach
+reached-start {reach} one rows w =
+    let clear : (p : ℕ) → (p ≡ 0 → ⊥) → bit reach p ≡ false = λ p n. one .other p n ∙ bit-none p in
     record {
-      size = length-set (replicate 33 false) 0 true ∙ long;
       at = λ p l. ⊎-elim
-          (λ (q : p ≡ 0). subst (λ (x : ℕ). Passing (Cuts rows [] 0 x (take x w)) (getD (set (replicate 33 false) 0 true) x false)) (sym q)
-          (subst (λ (t : Bool). Passing (Cuts rows [] 0 0 (take 0 w)) t) (sym (getD-set-same (replicate 33 false) 0 true false (omega arith))) (none-start rows w)))
-          (λ (q : p ≡ 0 → ⊥).
-          let e : getD (set (replicate 33 false) 0 true) p false ≡ false = getD-set-other (replicate 33 false) 0 p true false q ∙ getD-replicate {A = Bool} 33 p false false (omega arith) in
-          subst (λ (t : Bool). Passing (Cuts rows [] 0 p (take p w)) t) (sym e) (none-later rows w p q))
+          (λ (q : p ≡ 0). subst (λ (x : ℕ). Passing (Cuts rows [] 0 x (take x w)) (bit reach x)) (sym q)
+          (subst (λ (t : Bool). Passing (Cuts rows [] 0 0 (take 0 w)) t) (sym (one .self)) (none-start rows w)))
+          (λ (q : p ≡ 0 → ⊥). subst (λ (t : Bool). Passing (Cuts rows [] 0 p (take p w)) t) (sym (clear p q)) (none-later rows w p q))
           (same? p 0);
+      outside = λ p l. clear p (λ q. omega arith);
     }
-
--- ---- one end: no piece of b begins at a place before `from` that is reached
-pub record Barred (rows : List ℕ) (b : Block) (reach : List Bool) (w : List ℕ) (to from : ℕ) : Type 0 where
-  pub none : (p : ℕ) → p < from → p ≤ to → getD reach p false ≡ true → Takes rows b p to (slice p to w) → ⊥
-
-module _ {rows : List ℕ} {b : Block} {reach : List Bool} {w : List ℕ} {to : ℕ} where
-  pub barred-start : (from : ℕ) → from ≡ to - (b .k + b .max) → Barred rows b reach w to from
-  barred-start from q = record { none = λ p l k r t. let x = t .few in omega arith }
-
-  pub barred-step : {from : ℕ} → Barred rows b reach w to from → (getD reach from false ≡ true → Takes rows b from to (slice from to w) → ⊥) → Barred rows b reach w to (from + 1)
-  barred-step {from} g h = record {
-    none = λ p l k r t. ⊎-elim
-        (λ (q : p ≡ from). h (subst (λ (x : ℕ). getD reach x false ≡ true) q r) (subst (λ (x : ℕ). Takes rows b x to (slice x to w)) q t))
-        (λ (q : p ≡ from → ⊥). g .none p (omega arith) k r t)
-        (same? p from);
-  }
-
-  pub barred-end : {from : ℕ} → to < from + (b .k + b .min) → Barred rows b reach w to from → Barred rows b reach w to (to + 1)
-  barred-end {from} l g = record {
-    none = λ p k m r t.
-        let x = t .enough in
-        ⊎-elim (λ (y : p < from). g .none p y m r t) (λ (y : from ≤ p). absurd (omega arith)) (below? p from);
-  }
 
 -- the parts of a list that is cut at a middle place
 left-part : (to mid : ℕ) (w u v : List ℕ) → mid ≤ to → take to w ≡ u ++ v → length u ≡ mid → u ≡ take mid w
@@ -69,57 +44,100 @@ left-part to mid w u v l q n = sym (take-at u v mid n) ∙ ap (λ (x : List ℕ)
 right-part : (to mid : ℕ) (w u v : List ℕ) → take to w ≡ u ++ v → length u ≡ mid → v ≡ slice mid to w
 right-part to mid w u v q n = sym (drop-at u v mid n) ∙ ap (λ (x : List ℕ). drop mid x) (sym q)
 
-module _ {rows : List ℕ} {bs : List Block} {b : Block} {reach : List Bool} {w : List ℕ} {to : ℕ} (g : Reached rows bs w reach) (end : to ≤ length w) where
-  pub ends-true : {from : ℕ} → from ≤ to → getD reach from false ≡ true → Takes rows b from to (slice from to w) → Passing (Cuts rows (bs ++ (b ∷ [])) 0 to (take to w)) true
-  ends-true {from} l r t =
-      let whole : take to w ≡ take from w ++ slice from to w = sym (take-append-drop from (take to w)) ∙ ap (λ (x : List ℕ). x ++ slice from to w) (take-take from to w l) in
-      passing-true (subst (λ (x : List ℕ). Cuts rows (bs ++ (b ∷ [])) 0 to x) (sym whole)
-      (cuts-snoc rows bs b 0 from to (take from w) (slice from to w) (g .at from (omega arith) .passed r) l t))
+-- ---- all walks that begin before `from`
+pub record Begun (rows : List ℕ) (b : Block) (reach : ℕ) (w : List ℕ) (from p : ℕ) : Type 0 where
+  pub start : ℕ
+  pub early : start < from
+  pub reached : bit reach start ≡ true
+  pub inside : start ≤ p
+  pub end : p ≤ length w
+  pub taken : Takes rows b start p (slice start p w)
+
+pub record Extended (rows : List ℕ) (b : Block) (reach : ℕ) (w : List ℕ) (from next : ℕ) : Type 0 where
+  pub found : (p : ℕ) → Begun rows b reach w from p → bit next p ≡ true
+  pub only : (p : ℕ) → bit next p ≡ true → Begun rows b reach w from p
+
+pub extended-start : (rows : List ℕ) (b : Block) (reach : ℕ) (w : List ℕ) → Extended rows b reach w 0 0
+extended-start rows b reach w = record { found = λ p h. let l = h .early in absurd (omega arith); only = λ p h. absurd (clash h (bit-none p)) }
+
+begun-later : {rows : List ℕ} {b : Block} {reach : ℕ} {w : List ℕ} {from p : ℕ} → Begun rows b reach w from p → Begun rows b reach w (from + 1) p
+begun-later h = let l = h .early in record { start = h .start; early = omega arith; reached = h .reached; inside = h .inside; end = h .end; taken = h .taken }
+
+-- a piece that begins before from + 1 begins at `from`, or before
+begun-split : {rows : List ℕ} {b : Block} {reach : ℕ} {w : List ℕ} {from p : ℕ} {A : Type 0} → Begun rows b reach w (from + 1) p
+    → (bit reach from ≡ true → from ≤ p → p ≤ length w → Takes rows b from p (slice from p w) → A) → (Begun rows b reach w from p → A) → A
+begun-split {rows} {b} {reach} {w} {from} {p} {A} h here earlier =
+    let l = h .early in
+    ⊎-elim
+    (λ (q : h .start ≡ from). here
+    (subst (λ (x : ℕ). bit reach x ≡ true) q (h .reached))
+    (subst (λ (x : ℕ). x ≤ p) q (h .inside))
+    (h .end)
+    (subst (λ (x : ℕ). Takes rows b x p (slice x p w)) q (h .taken)))
+    (λ (q : h .start ≡ from → ⊥). earlier (record { start = h .start; early = omega arith; reached = h .reached; inside = h .inside; end = h .end; taken = h .taken }))
+    (same? (h .start) from)
+
+module _ {rows : List ℕ} {b : Block} {reach : ℕ} {w : List ℕ} {from next : ℕ} (g : Extended rows b reach w from next) where
+  pub extended-skip : bit reach from ≡ false → Extended rows b reach w (from + 1) next
+  extended-skip n = record {
+    found = λ p h. begun-split h (λ r l k t. absurd (clash r n)) (λ y. g .found p y);
+    only = λ p h. begun-later (g .only p h);
+  }
+
+  pub extended-step : {more : ℕ} → bit reach from ≡ true → Ends rows b from (length w + 1) w next more → Extended rows b reach w (from + 1) more
+  extended-step {more} r e = record {
+    found = λ p h. begun-split h (λ s l k t. e .found p l (omega arith) t) (λ y. e .kept p (g .found p y));
+    only = λ p h. ⊎-elim
+        (λ (o : bit next p ≡ true). begun-later (g .only p o))
+        (λ (o : bit next p ≡ false).
+        let y = e .only p h o in
+        record { start = from; early = omega arith; reached = r; inside = y .0; end = omega arith; taken = y .2 })
+        (holds? (bit next p));
+  }
+
+module _ {rows : List ℕ} {bs : List Block} {b : Block} {reach : ℕ} {w : List ℕ} (g : Reached rows bs w reach) where
+  begun-cuts : {from p : ℕ} → Begun rows b reach w from p → Cuts rows (bs ++ (b ∷ [])) 0 p (take p w)
+  begun-cuts {from} {p} h =
+      let i = h .start in
+      let l = h .inside in
+      let k = h .end in
+      let whole : take p w ≡ take i w ++ slice i p w = sym (take-append-drop i (take p w)) ∙ ap (λ (x : List ℕ). x ++ slice i p w) (take-take i p w l) in
+      subst (λ (x : List ℕ). Cuts rows (bs ++ (b ∷ [])) 0 p x) (sym whole)
+      (cuts-snoc rows bs b 0 i p (take i w) (slice i p w) (g .at i (omega arith) .passed (h .reached)) l (h .taken))
 
   -- a cut that ends in a piece of b begins that piece at a place that is reached
-  ended-barred : Barred rows b reach w to (to + 1) → Ended rows bs b 0 to (take to w) → ⊥
-  ended-barred h e =
+  cuts-begun : {p : ℕ} → p ≤ length w → Ended rows bs b 0 p (take p w) → Begun rows b reach w (length w + 1) p
+  cuts-begun {p} end e =
       let j = e .parts in
       let m = e .mid in
       let k = e .inside in
       let n : length (j .left) ≡ m = cuts-length rows bs 0 m (j .left) (j .onLeft) ∙ omega arith in
-      let c : Cuts rows bs 0 m (take m w) = subst (λ (x : List ℕ). Cuts rows bs 0 m x) (left-part to m w (j .left) (j .right) k (j .whole) n) (j .onLeft) in
-      let t : Takes rows b m to (slice m to w) = subst (λ (x : List ℕ). Takes rows b m to x) (right-part to m w (j .left) (j .right) (j .whole) n) (j .onRight) in
-      h .none m (omega arith) k (⊎-elim (λ (y : getD reach m false ≡ true). y) (λ (y : getD reach m false ≡ false). absurd (g .at m (omega arith) .failed y c)) (holds? (getD reach m false))) t
+      let c : Cuts rows bs 0 m (take m w) = subst (λ (x : List ℕ). Cuts rows bs 0 m x) (left-part p m w (j .left) (j .right) k (j .whole) n) (j .onLeft) in
+      record {
+        start = m;
+        early = omega arith;
+        reached = ⊎-elim (λ (y : bit reach m ≡ true). y) (λ (y : bit reach m ≡ false). absurd (g .at m (omega arith) .failed y c)) (holds? (bit reach m));
+        inside = k;
+        end = end;
+        taken = subst (λ (x : List ℕ). Takes rows b m p x) (right-part p m w (j .left) (j .right) (j .whole) n) (j .onRight);
+      }
 
-  pub ends-false : Barred rows b reach w to (to + 1) → Passing (Cuts rows (bs ++ (b ∷ [])) 0 to (take to w)) false
-  ends-false h = passing-false (λ c. ended-barred h (cuts-unsnoc rows bs b 0 to (take to w) c))
-
--- ---- all ends before `to`
-pub record Extended (rows : List ℕ) (bs : List Block) (w : List ℕ) (to : ℕ) (next : List Bool) : Type 0 where
-  pub size : length next ≡ 33
-  pub at : (p : ℕ) → p < to → p ≤ length w → Passing (Cuts rows bs 0 p (take p w)) (getD next p false)
-
-pub extended-start : (rows : List ℕ) (bs : List Block) (w : List ℕ) → Extended rows bs w 0 (replicate 33 false)
-extended-start rows bs w = record { size = length-replicate {A = Bool} 33 false; at = λ p l. absurd (omega arith) }
-
-pub extended-step : {rows : List ℕ} {bs : List Block} {w : List ℕ} {to : ℕ} {next : List Bool} {r : Bool} → to ≤ 32 → Extended rows bs w to next
-    → Passing (Cuts rows bs 0 to (take to w)) r → Extended rows bs w (to + 1) (set next to r)
-extended-step {rows} {bs} {w} {to} {next} {r} h g new =
-    let long = g .size in
-    record {
-      size = length-set next to r ∙ long;
-      at = λ p l k. ⊎-elim
-          (λ (q : p ≡ to). subst (λ (x : ℕ). Passing (Cuts rows bs 0 x (take x w)) (getD (set next to r) x false)) (sym q)
-          (subst (λ (t : Bool). Passing (Cuts rows bs 0 to (take to w)) t) (sym (getD-set-same next to r false (omega arith))) new))
-          (λ (q : p ≡ to → ⊥). subst (λ (t : Bool). Passing (Cuts rows bs 0 p (take p w)) t) (sym (getD-set-other next to p r false q)) (g .at p (omega arith) k))
-          (same? p to);
-    }
-
-pub extended-end : {rows : List ℕ} {bs : List Block} {w : List ℕ} {to : ℕ} {next : List Bool} → length w < to → Extended rows bs w to next → Reached rows bs w next
-extended-end l g = record { size = g .size; at = λ p k. g .at p (omega arith) k }
+  pub extended-end : {next : ℕ} → Extended rows b reach w (length w + 1) next → Reached rows (bs ++ (b ∷ [])) w next
+  extended-end {next} e = record {
+    at = λ p l. record {
+      passed = λ h. begun-cuts (e .only p h);
+      failed = λ h c. clash (e .found p (cuts-begun l (cuts-unsnoc rows bs b 0 p (take p w) c))) h;
+    };
+    outside = λ p l. ⊎-elim (λ (y : bit next p ≡ true). let k = e .only p y .end in absurd (omega arith)) (λ (y : bit next p ≡ false). y) (holds? (bit next p));
+  }
 
 -- ---- all blocks
-pub reached-more : {rows : List ℕ} (blocks : List Block) {w : List ℕ} {reach : List Bool} (d : Block) (j : ℕ) → j < length blocks
+pub reached-more : {rows : List ℕ} (blocks : List Block) {w : List ℕ} {reach : ℕ} (d : Block) (j : ℕ) → j < length blocks
     → Reached rows (take j blocks ++ (getD blocks j d ∷ [])) w reach → Reached rows (take (j + 1) blocks) w reach
 reached-more {rows} blocks {w} {reach} d j l g =
     subst (λ (bs : List Block). Reached rows bs w reach) (sym (ap (λ (i : ℕ). take i blocks) (add-one j) ∙ take-suc blocks j d l)) g
 
-pub reached-end : {rows : List ℕ} {bs : List Block} {w : List ℕ} {reach : List Bool} → Reached rows bs w reach → Passing (Cuts rows bs 0 (length w) w) (getD reach (length w) false)
-reached-end {rows} {bs} {w} {reach} g =
-    subst (λ (x : List ℕ). Passing (Cuts rows bs 0 (length w) x) (getD reach (length w) false)) (take-length w) (g .at (length w) (omega arith))
+pub reached-end : {rows : List ℕ} {bs : List Block} {w : List ℕ} {reach : ℕ} {r : Bool} → Reached rows bs w reach → r ≡ bit reach (length w) → Passing (Cuts rows bs 0 (length w) w) r
+reached-end {rows} {bs} {w} {reach} g q =
+    subst (λ (t : Bool). Passing (Cuts rows bs 0 (length w) w) t) (sym q)
+    (subst (λ (x : List ℕ). Passing (Cuts rows bs 0 (length w) x) (bit reach (length w))) (take-length w) (g .at (length w) (omega arith)))

@@ -1,9 +1,9 @@
 -- What stands in a piece of an offered list, byte by byte. Assumes nothing.
-use mathlib.Core.Path.{_≡_, refl, sym, ap, ap₂, _∙_, subst}
-use mathlib.Core.Logic.{_⊎_, inl, inr, ⊎-elim}
+use mathlib.Core.Path.{_≡_, refl, sym, ap, _∙_, subst}
+use mathlib.Core.Logic.{⊎-elim}
 use mathlib.Core.Bool.{Bool, true, false}
 use mathlib.Core.List.{List, [], _∷_, _++_}
-use Prim.Native.Nat.{ℕ, zero, suc, _+_, _-_, _≤_, _<_}
+use Prim.Native.Nat.{ℕ, _+_, _-_, _≤_, _<_}
 use native.Mathlib.Numerals.{add-one}
 use native.Mathlib.Omega.{arith}
 use lib.Dec.{eqb}
@@ -11,16 +11,16 @@ use lib.ListN.{length, getD}
 use lib.Seq.{slice, slice-empty, slice-cons, length-slice}
 use Rattle.assign.specs.Rows.{bit, may, between, oneIf, cnt, Plus}
 use Rattle.assign.specs.Assignment.{takes, Assigns}
-use Rattle.assign.proofs.Lemmas.{same?, below?, holds?, clash, not-so, between-in, between-from, between-to, hit, miss}
+use Rattle.assign.proofs.Lemmas.{same?, holds?, clash, between-in, between-from, between-to, hit, miss}
 use Rattle.assign.proofs.Counting.{cnt-append}
-use Rattle.assign.proofs.Masks.{bit-none}
+use Rattle.assign.proofs.Masks.{bit-none, bits-same}
 use Rattle.assign.proofs.Groups.{takes-inv}
 use Rattle.assign.proofs.Pieces.{slice-at}
 use Rattle.assign.proofs.Groups.{takes-spare, takes-member}
 use Rattle.blocks.specs.declared.Block.{Block}
-use Rattle.cuts.specs.Cut.{Passing}
-use Rattle.passes.specs.Reach.{Fresh, Good, Sees, Whole}
-use Rattle.cuts.proofs.Laws.{passing-true, passing-false, slice-split}
+use Rattle.cuts.specs.Cut.{Takes, Passing}
+use Rattle.passes.specs.Reach.{Fresh, Good, Group, Whole}
+use Rattle.cuts.proofs.Laws.{passing-false, slice-split}
 
 -- ---- one byte
 module _ {rows : List ℕ} {b : Block} {members e x : ℕ} where
@@ -62,6 +62,7 @@ unfolding cnt
 good-start rows b from w = record {
   right = λ i l. absurd (omega arith);
   counted = λ m l. ap (λ (x : List ℕ). cnt m x) (slice-empty from w) ∙ sym (ap oneIf (bit-none m));
+  inside = λ m h. absurd (clash h (bit-none m));
 }
 
 module _ {rows : List ℕ} {b : Block} {from e : ℕ} {w : List ℕ} {members : ℕ} (f : from ≤ e) (l : e < length w) (g : Good rows b from e w members) where
@@ -79,6 +80,7 @@ module _ {rows : List ℕ} {b : Block} {from e : ℕ} {w : List ℕ} {members : 
         let z = miss (getD w e 0) m (λ p. omega arith) in
         let h = g .counted m k in
         omega arith;
+    inside = g .inside;
   }
 
   pub good-member : {more : ℕ} → Fresh rows b members e (getD w e 0) → Plus (bit members) (getD w e 0) (bit more) → Good rows b from (e + 1) w more
@@ -98,6 +100,10 @@ module _ {rows : List ℕ} {b : Block} {from e : ℕ} {w : List ℕ} {members : 
         let same : oneIf (bit more m) ≡ oneIf (bit members m) = ap oneIf (p .other m (λ r. q (sym r))) in
         omega arith)
         (same? (getD w e 0) m);
+    inside = λ m t. ⊎-elim
+        (λ (q : m ≡ getD w e 0). subst (λ (j : ℕ). between (b .first) (b .first + b .k) j ≡ true) (sym q) (h .inside))
+        (λ (q : m ≡ getD w e 0 → ⊥). g .inside m (sym (p .other m q) ∙ t))
+        (same? m (getD w e 0));
   }
 
   -- a byte that is neither 255 nor a new member: no assignment
@@ -129,59 +135,47 @@ module _ {rows : List ℕ} {b : Block} {from e : ℕ} {w : List ℕ} {members : 
       omega arith)
       (takes-inv rows (b .first) (b .k) e x t)
 
-pub see-stop : {rows : List ℕ} {b : Block} {from e to : ℕ} {w : List ℕ} {members : ℕ} {r : Bool} → b .first + b .k ≤ 32 → from ≤ e → e < to → to ≤ length w → Good rows b from e w members
-    → (getD w e 0 ≡ 255 → ⊥) → Passing (Fresh rows b members e (getD w e 0)) r → r ≡ false → Sees rows b from to w false 0
-see-stop block f lt end g n p q = record {
-  good = λ t. absurd (clash t refl);
-  bad = λ _. good-stop f (omega arith) g lt end n block (passing-false (p .failed q));
-}
-
-pub see-end : {rows : List ℕ} {b : Block} {from to : ℕ} {w : List ℕ} {members : ℕ} → Good rows b from to w members → Sees rows b from to w true members
-see-end g = record { good = λ _. g; bad = λ f. absurd (clash refl f) }
-
 pub fresh-below : {rows : List ℕ} {b : Block} {members e x : ℕ} → b .first + b .k ≤ 32 → Fresh rows b members e x → x < 32
 fresh-below {rows} {b} {members} {e} {x} block f = let z = between-to (b .first) (b .first + b .k) x (f .inside) in omega arith
 
 -- ---- the whole piece
-pub piece-bad : {rows : List ℕ} {b : Block} {from to : ℕ} {w : List ℕ} {right : Bool} {members : ℕ} → Sees rows b from to w right members → right ≡ false
-    → Passing (Assigns rows (b .first) (b .k) from to (slice from to w)) false
-piece-bad s f = passing-false (s .bad f)
-
-pub piece-good : {rows : List ℕ} {b : Block} {from to : ℕ} {w : List ℕ} {right r : Bool} {members : ℕ} → b .first + b .k ≤ 32 → to ≤ length w
-    → Sees rows b from to w right members → right ≡ true → Passing (Whole members (b .first) (b .k)) r
-    → Passing (Assigns rows (b .first) (b .k) from to (slice from to w)) r
-piece-good {rows} {b} {from} {to} {w} {right} {r} {members} block end s t h =
-    let g = s .good t in
-    let long = length-slice from to w end in
-    record {
-      passed = λ y. record {
+module _ {rows : List ℕ} {b : Block} {from to : ℕ} {w : List ℕ} {members : ℕ} (block : b .first + b .k ≤ 32) (end : to ≤ length w) (g : Good rows b from to w members) where
+  good-assigns : ((m : ℕ) → b .first ≤ m → m < b .first + b .k → bit members m ≡ true) → Assigns rows (b .first) (b .k) from to (slice from to w)
+  good-assigns h =
+      let long = length-slice from to w end in
+      record {
         size = long;
         right = λ i l.
             let at : getD (slice from to w) i 0 ≡ getD w (from + i) 0 = slice-at from to w i (omega arith) in
             subst (λ (x : ℕ). takes rows (b .first) (b .k) (from + i) x ≡ true) (sym at) (g .right i (omega arith));
-        once = λ m f u. g .counted m (omega arith) ∙ ap oneIf (h .passed y .all m f u);
-      };
-      failed = λ n a. h .failed n (record {
-        all = λ m f u. ⊎-elim
-            (λ (o : bit members m ≡ true). o)
-            (λ (o : bit members m ≡ false).
-            let c = g .counted m (omega arith) in
-            let z : oneIf (bit members m) ≡ 0 = ap oneIf o in
-            let d = a .once m f u in
-            absurd (omega arith))
-            (holds? (bit members m));
-      });
-    }
+        once = λ m f u. g .counted m (omega arith) ∙ ap oneIf (h m f u);
+      }
 
--- ---- the members one by one
-pub whole-more : (members first m : ℕ) → ((v : ℕ) → first ≤ v → v < m → bit members v ≡ true) → bit members m ≡ true → (v : ℕ) → first ≤ v → v < m + 1 → bit members v ≡ true
-whole-more members first m g h v l k = ⊎-elim
-    (λ (q : v ≡ m). subst (λ (x : ℕ). bit members x ≡ true) (sym q) h)
-    (λ (q : v ≡ m → ⊥). g v l (omega arith))
-    (same? v m)
+  assigns-good : Assigns rows (b .first) (b .k) from to (slice from to w) → (m : ℕ) → b .first ≤ m → m < b .first + b .k → bit members m ≡ true
+  assigns-good a m f u = ⊎-elim
+      (λ (o : bit members m ≡ true). o)
+      (λ (o : bit members m ≡ false).
+      let c = g .counted m (omega arith) in
+      let z : oneIf (bit members m) ≡ 0 = ap oneIf o in
+      let d = a .once m f u in
+      absurd (omega arith))
+      (holds? (bit members m))
 
-pub whole-false : {members first k : ℕ} (m : ℕ) → first ≤ m → m < first + k → bit members m ≡ false → Passing (Whole members first k) false
-whole-false m l h f = passing-false (λ w. clash (w .all m l h) f)
+  -- members never leave the block, so where none is missing they are the same mask
+  complete : {all : ℕ} → Group b all → ((m : ℕ) → b .first ≤ m → m < b .first + b .k → bit members m ≡ true) → members ≡ all
+  complete {all} a h = bits-same members all (λ m. ⊎-elim
+      (λ (t : between (b .first) (b .first + b .k) m ≡ true).
+      h m (between-from (b .first) (b .first + b .k) m t) (between-to (b .first) (b .first + b .k) m t) ∙ sym (a .at m ∙ t))
+      (λ (t : between (b .first) (b .first + b .k) m ≡ false).
+      ⊎-elim (λ (o : bit members m ≡ true). absurd (clash (g .inside m o) t)) (λ (o : bit members m ≡ false). o ∙ sym (a .at m ∙ t)) (holds? (bit members m)))
+      (holds? (between (b .first) (b .first + b .k) m)))
 
-pub whole-true : {members first k : ℕ} (m : ℕ) → first + k ≤ m → ((v : ℕ) → first ≤ v → v < m → bit members v ≡ true) → Passing (Whole members first k) true
-whole-true m l g = passing-true (record { all = λ v f u. g v f (omega arith) })
+  pub whole-takes : {all : ℕ} → Group b all → to - from ≤ b .k + b .max → Whole b all members from to → Takes rows b from to (slice from to w)
+  whole-takes {all} a few h = record {
+    assigned = good-assigns (λ m f u. ap (λ (x : ℕ). bit x m) (h .complete) ∙ a .at m ∙ between-in (b .first) (b .first + b .k) m f u);
+    enough = h .enough;
+    few = few;
+  }
+
+  pub takes-whole : {all : ℕ} → Group b all → Takes rows b from to (slice from to w) → Whole b all members from to
+  takes-whole a t = record { complete = complete a (assigns-good (t .assigned)); enough = t .enough }

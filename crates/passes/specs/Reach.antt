@@ -1,24 +1,26 @@
 -- The places that the blocks so far reach in an offered list: what the functions behind `cut_passes` give.
--- Reached rows bs w reach  <-> reach says of each place p whether the blocks bs cut the first p bytes of w
+-- Reached rows bs w reach  <-> the mask `reach` has each place p of w for which the blocks bs cut the first p bytes of w, and no other
 -- Fresh rows b members e x <-> x is a member of the block b that may take the element e, and is not among the members
 -- Good rows b from to w members <-> the bytes from .. to - 1 of w are right for b, no member stands twice, and those that stand there are the members
--- Sees rows b from to w right members <-> right says whether that can be, and then the members are these
--- Whole members first k    <-> each of the members first .. first + k - 1 is there
+-- Group b all <-> the mask `all` has the members of b, and no other
+-- Whole b all members from to <-> the members are all of them, and the elements from .. to - 1 are no fewer than b asks
+-- Marked P ends to r <-> the mask r is `ends`, with the place `to` too where P holds
+-- Ends rows b from stop w ends r <-> r is `ends`, with each place before `stop` too at which a piece of b ends that begins at `from`
 -- Assumes nothing: these are definitions.
 use mathlib.Core.Path.{_≡_}
-use mathlib.Core.Bool.{Bool, true, false}
+use mathlib.Core.Bool.{true, false}
 use mathlib.Core.List.{List}
 use Prim.Native.Nat.{ℕ, _+_, _-_, _≤_, _<_}
 use lib.ListN.{length, getD, take}
 use lib.Seq.{slice}
-use Rattle.assign.specs.Rows.{bit, may, between, oneIf, cnt}
-use Rattle.assign.specs.Assignment.{takes, Assigns}
+use Rattle.assign.specs.Rows.{bit, may, between, oneIf, cnt, Plus}
+use Rattle.assign.specs.Assignment.{takes}
 use Rattle.blocks.specs.declared.Block.{Block}
-use Rattle.cuts.specs.Cut.{Cuts, Passing}
+use Rattle.cuts.specs.Cut.{Takes, Cuts, Passing}
 
-pub record Reached (rows : List ℕ) (bs : List Block) (w : List ℕ) (reach : List Bool) : Type 0 where
-  pub size : length reach ≡ 33
-  pub at : (p : ℕ) → p ≤ length w → Passing (Cuts rows bs 0 p (take p w)) (getD reach p false)
+pub record Reached (rows : List ℕ) (bs : List Block) (w : List ℕ) (reach : ℕ) : Type 0 where
+  pub at : (p : ℕ) → p ≤ length w → Passing (Cuts rows bs 0 p (take p w)) (bit reach p)
+  pub outside : (p : ℕ) → length w < p → bit reach p ≡ false
 
 pub record Fresh (rows : List ℕ) (b : Block) (members e x : ℕ) : Type 0 where
   pub inside : between (b .first) (b .first + b .k) x ≡ true
@@ -28,10 +30,20 @@ pub record Fresh (rows : List ℕ) (b : Block) (members e x : ℕ) : Type 0 wher
 pub record Good (rows : List ℕ) (b : Block) (from to : ℕ) (w : List ℕ) (members : ℕ) : Type 0 where
   pub right : (i : ℕ) → i < to - from → takes rows (b .first) (b .k) (from + i) (getD w (from + i) 0) ≡ true
   pub counted : (m : ℕ) → m < 255 → cnt m (slice from to w) ≡ oneIf (bit members m)
+  pub inside : (m : ℕ) → bit members m ≡ true → between (b .first) (b .first + b .k) m ≡ true
 
-pub record Sees (rows : List ℕ) (b : Block) (from to : ℕ) (w : List ℕ) (right : Bool) (members : ℕ) : Type 0 where
-  pub good : right ≡ true → Good rows b from to w members
-  pub bad : right ≡ false → Assigns rows (b .first) (b .k) from to (slice from to w) → ⊥
+pub record Group (b : Block) (all : ℕ) : Type 0 where
+  pub at : (m : ℕ) → bit all m ≡ between (b .first) (b .first + b .k) m
 
-pub record Whole (members first k : ℕ) : Type 0 where
-  pub all : (m : ℕ) → first ≤ m → m < first + k → bit members m ≡ true
+pub record Whole (b : Block) (all members from to : ℕ) : Type 0 where
+  pub complete : members ≡ all
+  pub enough : b .k + b .min ≤ to - from
+
+pub data Marked (P : Type 0) (ends to r : ℕ) : Type 0 where
+  marked : P → Plus (bit ends) to (bit r) → Marked P ends to r
+  unmarked : (P → ⊥) → r ≡ ends → Marked P ends to r
+
+pub record Ends (rows : List ℕ) (b : Block) (from stop : ℕ) (w : List ℕ) (ends r : ℕ) : Type 0 where
+  pub kept : (p : ℕ) → bit ends p ≡ true → bit r p ≡ true
+  pub found : (p : ℕ) → from ≤ p → p < stop → Takes rows b from p (slice from p w) → bit r p ≡ true
+  pub only : (p : ℕ) → bit r p ≡ true → bit ends p ≡ false → (from ≤ p) × (p < stop) × Takes rows b from p (slice from p w)

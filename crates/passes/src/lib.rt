@@ -4,8 +4,10 @@ ghost use lib.ListN.{take, length};
 ghost use Rattle.cuts.specs.Cut.{Inside, Cuts, Fills, Passing};
 use assign::mask::with;
 use blocks::Block;
+use places::has_place;
 use reach::fresh;
 
+mod places; // sets of places as masks
 mod reach; // the places of an offered list that the blocks so far reach
 
 // The byte of an element that no member has.
@@ -16,7 +18,7 @@ pub fn cut_passes(rows: &[u32; 32], blocks: [Block; 32], count: usize, w: &[u8])
     requires { ⌜ (count ≤ 32) × (length (now w) ≤ 32) × Inside (take count blocks) ⌝ }
     ensures { λ r. ⌜ Passing (Cuts (now (rows .entry)) (take count blocks) 0 (length (now (w .entry))) (now (w .entry))) r ⌝ }
 {
-    let mut reach = reach::start(w);
+    let mut reach = reach::start();
     let mut j = 0;
     while j < count {
         let b = blocks[j];
@@ -24,7 +26,7 @@ pub fn cut_passes(rows: &[u32; 32], blocks: [Block; 32], count: usize, w: &[u8])
         reach = next;
         j += 1;
     }
-    reach[w.len()]
+    has_place(reach, w.len())
 }
 
 // Whether w gives each of as many elements as it has bytes a member below k that may take it, and no member twice.

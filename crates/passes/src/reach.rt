@@ -1,24 +1,18 @@
 // The places that the blocks so far reach in an offered list. It shares the rows with the search, and nothing else.
 ghost use mathlib.Core.Path.{_≡_};
 ghost use mathlib.Core.List.{List, [], _∷_, _++_};
-ghost use Prim.Native.Nat.{ℕ, _+_, _-_, _≤_, _<_};
-ghost use lib.ListN.{length, take};
-ghost use lib.Seq.{slice};
-ghost use Rattle.assign.specs.Assignment.{Assigns};
+ghost use Prim.Native.Nat.{ℕ, _+_, _≤_, _<_, min};
+ghost use lib.ListN.{length};
 ghost use Rattle.blocks.specs.declared.Block.{Block as BlockOf};
-ghost use Rattle.cuts.specs.Cut.{Cuts, Passing};
-ghost use Rattle.passes.specs.Reach.{Reached, Fresh, Sees, Whole};
+ghost use Rattle.cuts.specs.Cut.{Passing};
+ghost use Rattle.passes.specs.Reach.{Reached, Fresh, Group, Whole, Marked, Ends};
 use crate::SPARE;
+use crate::places::has_place;
+use crate::places::with_place;
 use assign::mask::has;
 use assign::mask::with;
 use assign::rows::may_take;
 use blocks::Block;
-
-// Whether the bytes of a piece are right with no member twice, and the members that stand there.
-pub struct Seen {
-    pub right: bool,
-    pub members: u32,
-}
 
 // Whether x is a member of the block that may take e, and is not among the members yet.
 pub fn fresh(rows: &[u32; 32], b: Block, members: u32, e: u8, x: u8) -> bool
@@ -37,106 +31,88 @@ pub fn fresh(rows: &[u32; 32], b: Block, members: u32, e: u8, x: u8) -> bool
     may_take(rows, x, e)
 }
 
-// What stands in the bytes from .. to - 1 of w.
-fn see(rows: &[u32; 32], b: Block, w: &[u8], from: usize, to: usize) -> Seen
-    requires { ⌜ (b .first + b .k ≤ 32) × (from ≤ to) × (to ≤ length (now w)) × (length (now w) ≤ 32) ⌝ }
-    ensures { λ r. ⌜ Sees (now (rows .entry)) b from to (now (w .entry)) (r .right) (r .members) ⌝ }
+// The members of b.
+fn members_of(b: Block) -> u32
+    requires { ⌜ b .first + b .k ≤ 32 ⌝ }
+    ensures { λ r. ⌜ Group b r ⌝ }
 {
+    let end = b.first + b.k;
+    let mut all: u32 = 0;
+    let mut m = b.first;
+    while m < end {
+        all = with(all, m);
+        m += 1;
+    }
+    all
+}
+
+// The last place of a list of n elements at which a piece of b that begins at `from` may end.
+fn last_end(b: Block, from: usize, n: usize) -> usize
+    requires { ⌜ (from ≤ n) × (n ≤ 32) ⌝ }
+    ensures { λ r. ⌜ r ≡ min (from + b .k + b .max) n ⌝ }
+{
+    let most = from + b.k as usize + b.max as usize;
+    if most < n { most } else { n }
+}
+
+// The ends, with `to` where the piece from .. to - 1, in which these members stand, has all members of b and no fewer elements than b asks.
+fn mark(b: Block, all: u32, members: u32, from: usize, to: usize, ends: u64) -> u64
+    requires { ⌜ (from ≤ to) × (to ≤ 32) ⌝ }
+    ensures { λ r. ⌜ Marked (Whole b all members from to) ends to r ⌝ }
+{
+    let shortest = b.k as usize + b.min as usize;
+    if members != all {
+        return ends;
+    }
+    if to - from < shortest {
+        return ends;
+    }
+    with_place(ends, to)
+}
+
+// The ends, with each place at which a piece of b that begins at `from` ends: one walk, as far as the bytes are right.
+fn piece_ends(rows: &[u32; 32], b: Block, all: u32, w: &[u8], from: usize, ends: u64) -> u64
+    requires { ⌜ (b .first + b .k ≤ 32) × Group b all × (from ≤ length (now w)) × (length (now w) ≤ 32) ⌝ }
+    ensures { λ r. ⌜ Ends (now (rows .entry)) b from (length (now (w .entry)) + 1) (now (w .entry)) ends r ⌝ }
+{
+    let furthest = last_end(b, from, w.len());
+    let mut found = ends;
     let mut members: u32 = 0;
-    let mut e = from;
-    while e < to {
-        let x = w[e];
+    let mut to = from;
+    while to < furthest {
+        found = mark(b, all, members, from, to, found);
+        let x = w[to];
         if x != SPARE {
-            if !fresh(rows, b, members, e as u8, x) {
-                return Seen {
-                    right: false,
-                    members: 0,
-                };
+            if !fresh(rows, b, members, to as u8, x) {
+                return found;
             }
             members = with(members, x);
         }
-        e += 1;
+        to += 1;
     }
-    Seen {
-        right: true,
-        members: members,
-    }
-}
-
-// Whether each of the k members from `first` on is there.
-fn whole(members: u32, first: u8, k: u8) -> bool
-    requires { ⌜ first + k ≤ 32 ⌝ }
-    ensures { λ r. ⌜ Passing (Whole members first k) r ⌝ }
-{
-    let mut m = first;
-    while m < first + k {
-        if !has(members, m) {
-            return false;
-        }
-        m += 1;
-    }
-    true
-}
-
-// Whether the bytes from .. to - 1 of w are an assignment of these elements by the block.
-fn piece_passes(rows: &[u32; 32], b: Block, w: &[u8], from: usize, to: usize) -> bool
-    requires { ⌜ (b .first + b .k ≤ 32) × (from ≤ to) × (to ≤ length (now w)) × (length (now w) ≤ 32) ⌝ }
-    ensures { λ r. ⌜ Passing (Assigns (now (rows .entry)) (b .first) (b .k) from to (slice from to (now (w .entry)))) r ⌝ }
-{
-    let s = see(rows, b, w, from, to);
-    if !s.right {
-        return false;
-    }
-    whole(s.members, b.first, b.k)
-}
-
-// The least of the places at which a piece that ends at `to` may begin.
-fn first_start(b: Block, to: usize) -> usize
-    ensures { λ r. ⌜ r ≡ to - (b .k + b .max) ⌝ }
-{
-    let longest = b.k as usize + b.max as usize;
-    if longest < to { to - longest } else { 0 }
-}
-
-// Whether the blocks so far and b cut the first `to` bytes: b's piece begins at a place that is reached.
-fn ends(rows: &[u32; 32], b: Block, reach: [bool; 33], w: &[u8], to: usize) -> bool
-    requires { ⌜ (b .first + b .k ≤ 32) × (to ≤ length (now w)) × (length (now w) ≤ 32) ⌝ }
-    ensures { λ r. ⌜ ((bs : List BlockOf) → Reached (now (rows .entry)) bs (now (w .entry)) reach → Passing (Cuts (now (rows .entry)) (bs ++ (b ∷ [])) 0 to (take to (now (w .entry)))) r) ⌝ }
-{
-    let shortest = b.k as usize + b.min as usize;
-    let mut from = first_start(b, to);
-    while from + shortest <= to {
-        if reach[from] {
-            if piece_passes(rows, b, w, from, to) {
-                return true;
-            }
-        }
-        from += 1;
-    }
-    false
+    mark(b, all, members, from, to, found)
 }
 
 // The places that are reached with one block more.
-pub fn extend(rows: &[u32; 32], b: Block, reach: [bool; 33], w: &[u8]) -> [bool; 33]
+pub fn extend(rows: &[u32; 32], b: Block, reach: u64, w: &[u8]) -> u64
     requires { ⌜ (b .first + b .k ≤ 32) × (length (now w) ≤ 32) ⌝ }
     ensures { λ r. ⌜ ((bs : List BlockOf) → Reached (now (rows .entry)) bs (now (w .entry)) reach → Reached (now (rows .entry)) (bs ++ (b ∷ [])) (now (w .entry)) r) ⌝ }
 {
-    let mut next = [false; 33];
-    let mut to = 0;
-    while to <= w.len() {
-        let reached = ends(rows, b, reach, w, to);
-        next[to] = reached;
-        to += 1;
+    let all = members_of(b);
+    let mut next: u64 = 0;
+    let mut from = 0;
+    while from <= w.len() {
+        if has_place(reach, from) {
+            next = piece_ends(rows, b, all, w, from, next);
+        }
+        from += 1;
     }
     next
 }
 
-// No blocks reach the place 0 only.
-pub fn start(w: &[u8]) -> [bool; 33]
-    requires { ⌜ length (now w) ≤ 32 ⌝ }
-    ensures { λ r. ⌜ ((rows : List ℕ) → Reached rows [] (now (w .entry)) r) ⌝ }
+// With no blocks the place 0 is reached, and no other.
+pub fn start() -> u64
+    ensures { λ r. ⌜ ((rows w : List ℕ) → Reached rows [] w r) ⌝ }
 {
-    let mut reach = [false; 33];
-    reach[0] = true;
-    reach
+    with_place(0, 0)
 }

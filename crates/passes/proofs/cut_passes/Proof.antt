@@ -1,8 +1,7 @@
 -- `cut_passes` meets its contract. The invariant: `reach` has the places that the blocks before j reach. The measure is the number of blocks left.
 -- Assumes nothing.
-use mathlib.Core.Path.{_≡_, refl, sym, _∙_, subst}
-use mathlib.Core.List.{List}
-use Prim.Native.Nat.{ℕ, _+_, _-_, _≤_}
+use mathlib.Core.Path.{_≡_}
+use Prim.Native.Nat.{_-_, _≤_}
 use native.Mathlib.Omega.{arith}
 use lib.ListN.{length, take}
 use borrow.Author.Needs.{needs}
@@ -13,6 +12,7 @@ use Rattle.passes.proofs.cut_passes.Statement.{statement}
 use Rattle.passes.proofs.cut_passes.Tie as tie
 use Rattle.passes.proofs.cut_passes.Reads as reads
 use Rattle.passes.proofs.cut_passes.Lts as lts
+use Rattle.passes.proofs.places.has_place.Reads as has-place-reads
 use Rattle.passes.proofs.reach.extend.Reads as extend-reads
 use Rattle.passes.proofs.reach.start.Reads as start-reads
 
@@ -23,10 +23,10 @@ abbrev μ-loop : tie.MeasureT-loop
 μ-loop rows count w blocks reach₀ j₀ reach j = count - j
 
 start-requires : tie.Need-start-requires Inv-loop μ-loop
-start-requires c κs = c .before .pre .1
+start-requires c κs = search needs
 
 loop-holds : tie.Need-loop-holds Inv-loop μ-loop
-loop-holds c = let z : length (c .before .before .args .t2) ≡ 32 = search needs in (z, omega arith, c .start .ensures _)
+loop-holds c = let z : length (c .before .before .args .t2) ≡ 32 = search needs in (z, omega arith, c .start .ensures _ _)
 
 mul-b : tie.Need-mul-b Inv-loop μ-loop
 mul-b c = search needs
@@ -49,12 +49,12 @@ loop-again : tie.Need-loop-again Inv-loop μ-loop
 loop-again c =
     let i = c .before .before .before .loop .inv in (i .0, omega arith, reached-more (c .before .before .before .before .before .before .args .t2) _ (c .before .before .before .loop .j) (omega arith) (c .extend .ensures _ (i .2)))
 
-array-read-result : tie.Need-array-read-result Inv-loop μ-loop
-array-read-result c = omega arith
+has-place-requires : tie.Need-has-place-requires Inv-loop μ-loop
+has-place-requires c κs = omega arith
 
 returns : tie.Need-returns Inv-loop μ-loop
 returns c =
-    let i = c .before .loop .inv in let q : c .before .loop .j ≡ c .before .before .before .before .args .count = omega arith in reached-end (rw q at (i .2))
+    let l = c .before .before .loop in let q : l .j ≡ c .before .before .before .before .before .args .count = omega arith in reached-end (rw q at (l .inv .2)) (c .has-place .ensures)
 
 pub cut-passes-spec : {M : Type 1} → statement M
 cut-passes-spec =
@@ -70,5 +70,5 @@ cut-passes-spec =
     add-j
     loop-less
     loop-again
-    array-read-result
+    has-place-requires
     returns)

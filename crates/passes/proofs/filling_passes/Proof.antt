@@ -1,10 +1,9 @@
 -- `filling_passes` meets its contract. The invariant: the bytes before e are members that may take their elements, no member stands twice, and
 -- those that stand there are these. The measure is the number of bytes left. Assumes nothing.
-use mathlib.Core.Path.{_≡_, refl, sym, _∙_, subst}
-use Prim.Native.Nat.{ℕ, _+_, _-_, _≤_, _<_}
+use mathlib.Core.Path.{_≡_, refl}
+use Prim.Native.Nat.{_-_, _≤_}
 use native.Mathlib.Omega.{arith}
 use lib.ListN.{length}
-use borrow.Author.Needs.{needs}
 use borrow.Author.Tests.{not-true, not-false}
 use Rattle.passes.proofs.Seen.{fresh-below}
 use Rattle.passes.proofs.Fulls.{Full, full-start, full-step, full-stop, full-end}

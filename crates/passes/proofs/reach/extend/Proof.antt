@@ -1,46 +1,62 @@
--- `extend` meets its contract. The invariant: the places before `to` are marked for one block more. The measure is the number of places left.
--- Assumes nothing.
-use mathlib.Core.Path.{_≡_, refl, sym, _∙_, subst}
-use mathlib.Core.List.{List, [], _∷_, _++_}
+-- `extend` meets its contract. The invariant: the ends of the pieces that begin at a reached place before `from` are found. The measure is the number
+-- of places left. Assumes nothing.
+use mathlib.Core.Path.{_≡_, sym, _∙_, subst}
+use mathlib.Core.Logic.{⊎-elim}
 use Prim.Native.Nat.{ℕ, _+_, _-_, _≤_}
 use native.Mathlib.Omega.{arith}
 use lib.ListN.{length}
 use borrow.Author.Needs.{needs}
-use Rattle.blocks.specs.declared.Block.{Block}
-use Rattle.passes.specs.Reach.{Reached}
-use Rattle.passes.proofs.Reaches.{Extended, extended-start, extended-step, extended-end}
+use Rattle.passes.proofs.Reaches.{Extended, extended-start, extended-skip, extended-step, extended-end}
 use Rattle.passes.proofs.reach.extend.Statement.{statement}
 use Rattle.passes.proofs.reach.extend.Tie as tie
 use Rattle.passes.proofs.reach.extend.Reads as reads
 use Rattle.passes.proofs.reach.extend.Lts as lts
-use Rattle.passes.proofs.reach.ends.Reads as ends-reads
+use Rattle.passes.proofs.places.has_place.Reads as has-place-reads
+use Rattle.passes.proofs.reach.members_of.Reads as members-of-reads
+use Rattle.passes.proofs.reach.piece_ends.Reads as piece-ends-reads
 
 abbrev Inv-loop : tie.InvT-loop
-Inv-loop rows b reach w next₀ to₀ next to = (bs : List Block) → Reached rows bs w reach → Extended rows (bs ++ (b ∷ [])) w to next
+Inv-loop rows b reach w all next₀ from₀ next from = (from ≤ length w + 1) × Extended rows b reach w from next
 
 abbrev μ-loop : tie.MeasureT-loop
-μ-loop rows b reach w next₀ to₀ next to = (length w + 1) - to
+μ-loop rows b reach w all next₀ from₀ next from = (length w + 1) - from
+
+members-of-requires : tie.Need-members-of-requires Inv-loop μ-loop
+members-of-requires c κs = search needs
 
 loop-holds : tie.Need-loop-holds Inv-loop μ-loop
-loop-holds c = λ bs g. extended-start _ _ _
+loop-holds c = (omega arith, extended-start _ _ _ _)
 
-ends-requires : tie.Need-ends-requires Inv-loop μ-loop
-ends-requires c κs = (c .before .before .before .pre .0, omega arith, c .before .before .before .pre .1)
+has-place-requires : tie.Need-has-place-requires Inv-loop μ-loop
+has-place-requires c κs = omega arith
 
-array-write-next : tie.Need-array-write-next Inv-loop μ-loop
-array-write-next c = omega arith
+piece-ends-requires : tie.Need-piece-ends-requires Inv-loop μ-loop
+piece-ends-requires c κs = let p = c .before .before .before .before .before .before .pre in (p .0, c .before .before .before .before .members-of .ensures, omega arith, p .1)
 
-add-to : tie.Need-add-to Inv-loop μ-loop
-add-to c = omega arith
+add-from : tie.Need-add-from Inv-loop μ-loop
+add-from c = omega arith
 
 loop-less : tie.Need-loop-less Inv-loop μ-loop
 loop-less c = omega arith
 
 loop-again : tie.Need-loop-again Inv-loop μ-loop
-loop-again c = λ bs g. extended-step (omega arith) (c .before .before .loop .inv bs g) (c .ends .ensures bs g)
+loop-again c =
+    let a = c .before .before .before .before .before .before .args in
+    let l = c .before .before .before .loop in
+    let again : ℕ → Type 0 = λ next. Extended (a .rows .now) (a .b) (a .reach) (a .w .now) (l .from + 1) next in
+    let test = c .before .has-place .ensures in (
+      omega arith,
+      ⊎-elim
+          (λ v. subst again (sym (v .2)) (extended-step (l .inv .1) (sym test ∙ v .0 .taken) (v .1 .ensures)))
+          (λ v. subst again (sym (v .1)) (extended-skip (l .inv .1) (sym test ∙ v .0 .left)))
+          (c .if1 .came),
+    )
 
 returns : tie.Need-returns Inv-loop μ-loop
-returns c = λ bs g. extended-end (omega arith) (c .before .loop .inv bs g)
+returns c =
+    let l = c .before .loop in
+    let q : l .from ≡ length (c .before .before .before .before .args .w .now) + 1 = omega arith in
+    λ bs g. extended-end g (rw q at (l .inv .1))
 
 pub extend-spec : {M : Type 1} → statement M
 extend-spec =
@@ -48,10 +64,11 @@ extend-spec =
     (tie.spec
     Inv-loop
     μ-loop
+    members-of-requires
     loop-holds
-    ends-requires
-    array-write-next
-    add-to
+    has-place-requires
+    piece-ends-requires
+    add-from
     loop-less
     loop-again
     returns)

@@ -1,5 +1,5 @@
 -- `fresh` meets its contract: each test is a part of `Fresh`. Assumes nothing.
-use mathlib.Core.Path.{_≡_, sym, _∙_}
+use mathlib.Core.Path.{sym, _∙_}
 use native.Mathlib.Omega.{arith}
 use borrow.Author.Needs.{needs}
 use Rattle.passes.proofs.Seen.{fresh-low, fresh-high, fresh-old, fresh-may}

@@ -1,17 +1,17 @@
 -- `start` meets its contract. Assumes nothing.
-use native.Mathlib.Omega.{arith}
 use borrow.Author.Needs.{needs}
 use Rattle.passes.proofs.Reaches.{reached-start}
 use Rattle.passes.proofs.reach.start.Statement.{statement}
 use Rattle.passes.proofs.reach.start.Tie as tie
 use Rattle.passes.proofs.reach.start.Reads as reads
 use Rattle.passes.proofs.reach.start.Lts as lts
+use Rattle.passes.proofs.places.with_place.Reads as with-place-reads
 
-array-write-reach : tie.Need-array-write-reach
-array-write-reach c = search needs
+with-place-requires : tie.Need-with-place-requires
+with-place-requires c κs = search needs
 
 returns : tie.Need-returns
-returns c = reached-start _ (c .pre)
+returns c = reached-start (c .with-place .ensures)
 
 pub start-spec : {M : Type 1} → statement M
-start-spec = tie.close (tie.spec array-write-reach returns)
+start-spec = tie.close (tie.spec with-place-requires returns)
