@@ -23,7 +23,7 @@ use Rattle.template.specs.Reading.{Read, refuse, got}
 use Rattle.template.specs.Whole.{readTemplate}
 use Rattle.element.specs.Matches.{matches}
 use Rattle.plan.specs.Members.{memberHits}
-use Rattle.plan.specs.Blocks.{blockOfGroup, blockOfItem, blocksOfItems, blocksOf, isSubset, lowOf, highOf, Standing}
+use Rattle.template.specs.Blocks.{blockOfGroup, blockOfItem, blocksOfItems, blocksOf, isSubset, lowOf, highOf, Standing}
 use Rattle.plan.specs.Contract.{Planned, PlanOf, noPlan, aPlan, RowsOf}
 use Rattle.plan.specs.declared.Plan.{Plan}
 use Rattle.matcher.specs.Obeys.{rightBytes, noneTwice, bodyMet, lengthMet, obeysBy, obeys}

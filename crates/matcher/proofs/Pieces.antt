@@ -18,7 +18,7 @@ use Rattle.assign.proofs.Lemmas.{and-left, and-right, both, one-of, or-left, or
 use Rattle.assign.proofs.Assignments.{assigns-test, test-assigns, once-test, test-once}
 use Rattle.cuts.specs.Cut.{Takes}
 use Rattle.template.specs.Template.{Star, noStar, star, Group, grouped, Item, one, spares, permutation}
-use Rattle.plan.specs.Blocks.{minOf, maxOf, block, blockOfGroup, blockOfItem}
+use Rattle.template.specs.Blocks.{minOf, maxOf, block, blockOfGroup, blockOfItem}
 use Rattle.matcher.specs.Obeys.{spare, allSpare, withinBlock, starMet, groupTakes, itemTakes}
 
 abbrev pub MayByte : List ℕ → ℕ → ℕ → Type 0

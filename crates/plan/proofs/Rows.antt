@@ -23,7 +23,7 @@ use Rattle.element.proofs.Laws.{Between, single-between, range-between, any-bet
 use Rattle.assign.specs.Rows.{bit, may, Plus}
 use Rattle.assign.proofs.Masks.{bit-none}
 use Rattle.plan.specs.Members.{memberHits}
-use Rattle.plan.specs.Blocks.{StandsAt, Standing}
+use Rattle.template.specs.Blocks.{StandsAt, Standing}
 use Rattle.plan.specs.Contract.{RowsOf}
 use Rattle.plan.specs.Places.{MembersAt, RowTo, RowWithin}
 

@@ -21,7 +21,7 @@ use Rattle.template.specs.Whole.{readTemplate}
 use Rattle.assign.specs.Rows.{bit, may}
 use Rattle.assign.proofs.Masks.{bits-same}
 use Rattle.blocks.specs.declared.Block.{Block}
-use Rattle.plan.specs.Blocks.{blocksOf, isSubset, lowOf, highOf}
+use Rattle.template.specs.Blocks.{blocksOf, isSubset, lowOf, highOf}
 use Rattle.plan.specs.Contract.{Planned, PlanOf, noPlan, aPlan, RowsOf}
 use Rattle.plan.specs.declared.Plan.{Plan}
 use Rattle.plan.proofs.plan_of.Reads as plan-of

@@ -1,22 +1,20 @@
 // The plan of a template: its items as blocks, where its members stand, and which member matches which element of a list.
 ghost use mathlib.Core.List.{List};
 ghost use mathlib.Core.Path.{_≡_};
-ghost use Prim.Native.Nat.{_≤_, _<_};
+ghost use Prim.Native.Nat.{_≤_};
 ghost use lib.ListN.{length, take};
 ghost use Rattle.template.specs.Element.{Elem};
 ghost use Rattle.template.specs.Leaf.{Leaf};
 ghost use Rattle.element.specs.Contract.{ElementAt};
-ghost use Rattle.plan.specs.Blocks.{block, Standing};
+ghost use Rattle.template.specs.Blocks.{Standing};
 ghost use Rattle.plan.specs.Contract.{PlanOf, RowsOf};
 ghost use Rattle.plan.specs.Places.{MembersAt, RowTo, RowWithin};
 use assign::mask::with;
 use blocks::Block;
 use element::match_element;
-use template::whole::scan_template;
+use template::whole::read_template;
 use words::int_at;
 use words::within;
-
-mod walk; // the walk over an accepted template
 
 // The refusal's number or 0; the least and greatest length of the list; the blocks, the first `count`; the places of the members.
 pub struct Plan {
@@ -107,50 +105,21 @@ pub fn rows_of(t: &[u8], places: [usize; 32], members: usize, list: &[i32]) -> [
     rows
 }
 
-const LENGTH: u8 = 0x30;
-
-const INFINITY: u8 = 255;
-
-// What stands in the places of `blocks` that hold none.
-fn no_block() -> Block
-    ensures { λ r. ⌜ r ≡ block 0 0 0 0 ⌝ }
-{
-    Block {
-        first: 0,
-        k: 0,
-        min: 0,
-        max: 0,
-    }
-}
-
-// The plan of bytes that are refused with this number.
-fn no_plan(number: u8) -> Plan
-    requires { ⌜ 0 < number ⌝ }
-    ensures { λ r. ⌜ r .number ≡ number ⌝ }
-{
-    let none = no_block();
-    Plan {
-        number,
-        low: 0,
-        high: 0,
-        subset: false,
-        count: 0,
-        blocks: [none; 32],
-        members: 0,
-        places: [0; 32],
-    }
-}
-
 // The plan of the template whose bytes are t.
 pub fn plan_of(t: &[u8]) -> Plan
     ensures { λ r. ⌜ PlanOf (now (t .entry)) r ⌝ }
 {
-    let number = scan_template(t);
-    if number != 0 {
-        return no_plan(number);
+    let mut places = [0usize; 32];
+    let l = read_template(t, &mut places);
+    let blocks = l.blocks;
+    Plan {
+        number: l.number,
+        low: l.low,
+        high: l.high,
+        subset: l.subset,
+        count: l.count,
+        blocks,
+        members: l.members,
+        places,
     }
-    if t[0] != LENGTH {
-        return walk::plan_body(t, 0, 0, INFINITY);
-    }
-    walk::plan_body(t, 3, t[1], t[2])
 }
