@@ -12,9 +12,9 @@ use lib.Pow.{pow-pos, pow-lt, pow-add, shl-exact, shl-shr}
 use lib.Count.{trailingZeros, under}
 use lib.ListN.{getD}
 use mathlib.Core.List.{List}
-use Rattle.assign.specs.Rows.{bit, may, Plus}
+use Rattle.assign.specs.Rows.{bit, may, between, Plus}
 use Rattle.assign.specs.Visit.{Flipped, Lowest}
-use Rattle.assign.proofs.Lemmas.{same?, below?, clash, and-left, and-right}
+use Rattle.assign.proofs.Lemmas.{same?, below?, holds?, clash, not-so, and-left, and-right, between-in, between-from, between-to}
 
 -- ---- and, or, exclusive or, bit by bit
 digit : (x : ℕ) → x < 2 → (x ≡ 0) ⊎ (x ≡ 1)
@@ -208,3 +208,20 @@ plus-same {P} {S} {R} {m} p q k = ⊎-elim
 pub row-may : (rows : List ℕ) (m e : ℕ) → bit (getD rows m 0) e ≡ may rows m e
 unfolding may
 row-may rows m e = refl
+
+-- ---- the numbers from n on, one more at a time
+pub span-more : (n e old new : ℕ) → n ≤ e → ((i : ℕ) → bit old i ≡ between n e i) → Plus (bit old) e (bit new) → (i : ℕ) → bit new i ≡ between n (e + 1) i
+span-more n e old new l h p i = ⊎-elim
+    (λ (q : i ≡ e). subst (λ (j : ℕ). bit new j ≡ between n (e + 1) j) (sym q) (p .self ∙ sym (between-in n (e + 1) e l (omega arith))))
+    (λ (q : i ≡ e → ⊥). p .other i q ∙ h i ∙ between-past q)
+    (same? i e)
+  where
+    between-past : (i ≡ e → ⊥) → between n e i ≡ between n (e + 1) i
+    between-past q = ⊎-elim
+        (λ (t : between n e i ≡ true). let a = between-from n e i t in let b = between-to n e i t in t ∙ sym (between-in n (e + 1) i a (omega arith)))
+        (λ (t : between n e i ≡ false). t ∙ sym (not-so (between n (e + 1) i) (λ u.
+        let a = between-from n (e + 1) i u in let b = between-to n (e + 1) i u in clash (between-in n e i a (omega arith)) t)))
+        (holds? (between n e i))
+
+pub span-start : (n i : ℕ) → bit 0 i ≡ between n n i
+span-start n i = bit-none i ∙ sym (not-so (between n n i) (λ u. let a = between-from n n i u in let b = between-to n n i u in omega arith))

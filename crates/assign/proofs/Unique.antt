@@ -15,6 +15,8 @@ use Rattle.assign.proofs.mask.has.Reads as has-reads
 use Rattle.assign.proofs.mask.has.Kinds as has-kinds
 use Rattle.assign.proofs.mask.with.Reads as with-reads
 use Rattle.assign.proofs.mask.with.Kinds as with-kinds
+use Rattle.assign.proofs.mask.span.Reads as span-reads
+use Rattle.assign.proofs.mask.span.Kinds as span-kinds
 use Rattle.assign.proofs.rows.may_take.Reads as may-take-reads
 use Rattle.assign.proofs.rows.may_take.Kinds as may-take-kinds
 use Rattle.assign.proofs.rows.choices.Reads as choices-reads
@@ -36,6 +38,10 @@ has-unique κs a r r' s s' p q = p ∙ sym q
 pub with-unique : (κs : Lfts 0) (a : Dens κs with-kinds.ps) (r r' : resT with-kinds.r κs .Denot) (s s' : AtExit (endedOf 0 with-kinds.ps with-kinds.r) κs)
     → with-reads.Post κs a r s → with-reads.Post κs a r' s' → r ≡ r'
 with-unique κs a r r' s s' p q = bits-same r r' (plus-same p q)
+
+pub span-unique : (κs : Lfts 0) (a : Dens κs span-kinds.ps) (r r' : resT span-kinds.r κs .Denot) (s s' : AtExit (endedOf 0 span-kinds.ps span-kinds.r) κs)
+    → span-reads.Post κs a r s → span-reads.Post κs a r' s' → r ≡ r'
+span-unique κs a r r' s s' p q = bits-same r r' (λ k. p k ∙ sym (q k))
 
 pub may-take-unique : (κs : Lfts 1) (a : Dens κs may-take-kinds.ps) (r r' : resT may-take-kinds.r κs .Denot) (s s' : AtExit (endedOf 1 may-take-kinds.ps may-take-kinds.r) κs)
     → may-take-reads.Post κs a r s → may-take-reads.Post κs a r' s' → r ≡ r'

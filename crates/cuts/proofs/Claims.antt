@@ -1,17 +1,16 @@
 -- The proofs of specs/Claims.antt. Assumes nothing.
 use mathlib.Core.Path.{_≡_, refl, sym, ap, _∙_, subst}
-use mathlib.Core.Logic.{_⊎_, inl, inr, ⊎-elim}
+use mathlib.Core.Logic.{_⊎_, ⊎-elim}
 use mathlib.Core.Bool.{Bool, true, false}
 use mathlib.Core.List.{List}
-use Prim.Native.Nat.{ℕ, _+_, _-_, _≤_, _<_, min}
+use Prim.Native.Nat.{ℕ, _-_, _≤_, _<_}
 use native.Mathlib.Omega.{arith}
 use lib.ListN.{length, getD, take, length-take}
 use lib.Seq.{getD-take, ext-getD}
 use Rattle.assign.specs.Order.{earlier}
 use Rattle.assign.proofs.Lemmas.{below?, holds?, clash, not-so}
 use Rattle.assign.proofs.Laws.{first-unique}
-use Rattle.blocks.specs.declared.Block.{Block}
-use Rattle.cuts.specs.Cut.{Cuts, Fills, Best, Cutting, Filling, Passing}
+use Rattle.cuts.specs.Cut.{Cuts, Fills, Best, Passing}
 use Rattle.cuts.specs.Claims.{UniqueCut, UniqueFilling, CutPasses, CutFound, FillingPasses, FillingFound}
 
 -- ---- of any kind of list

@@ -1,25 +1,23 @@
 -- Fillings: the members that a filling leaves, and the elements that are added for them. Assumes nothing.
 use mathlib.Core.Path.{_≡_, refl, sym, ap, ap₂, _∙_, subst}
-use mathlib.Core.Logic.{_⊎_, inl, inr, ⊎-elim}
-use mathlib.Core.Bool.{Bool, true, false, not, _&&_, _||_}
+use mathlib.Core.Logic.{_⊎_, ⊎-elim}
+use mathlib.Core.Bool.{Bool, true, false, not, _||_}
 use mathlib.Core.List.{List, [], _∷_, _++_}
 use Prim.Native.Nat.{ℕ, zero, suc, _+_, _-_, _≤_, _<_, suc-le-suc}
-use native.Mathlib.Numerals.{add-one}
 use native.Mathlib.Omega.{arith}
 use lib.Dec.{eqb}
 use lib.ListN.{length, getD, set, take, drop, replicate, length-append, length-take, length-set, length-replicate, getD-replicate, take-append-drop, List·getD-append}
-use lib.Seq.{slice, take-take, take-length, getD-take, getD-append-add, getD-set-same, getD-set-other, ext-getD}
+use lib.Seq.{take-take, getD-take, getD-append-add, getD-set-same, getD-set-other, ext-getD}
 use borrow.Author.Tests.{eq-eqb, ne-eqb}
 use Rattle.assign.specs.Order.{earlier, First}
-use Rattle.assign.specs.Rows.{bit, may, between, oneIf, cnt, count, Plus}
+use Rattle.assign.specs.Rows.{bit, may, between, oneIf, cnt, count}
 use Rattle.assign.specs.Assignment.{takes, Assigns, Answer}
-use Rattle.assign.proofs.Lemmas.{same?, below?, holds?, clash, not-so, one-of, or-left, or-right, between-in, between-from, between-to, hit, miss}
+use Rattle.assign.proofs.Lemmas.{same?, below?, clash, not-so, one-of, or-left, or-right, between-in, between-from, hit, miss}
 use Rattle.assign.proofs.Laws.{earlier-append-left}
-use Rattle.assign.proofs.Counting.{cnt-append, cnt-at, count-places, count-less, places-into}
+use Rattle.assign.proofs.Counting.{cnt-append, count-places, count-less, places-into}
 use Rattle.assign.proofs.Groups.{takes-inv}
-use Rattle.assign.proofs.Masks.{bit-none}
 use Rattle.assign.proofs.Groups.{takes-member}
-use Rattle.cuts.specs.Cut.{Fills, Best, Filling}
+use Rattle.cuts.specs.Cut.{Fills, Filling}
 use Rattle.cuts.specs.Table.{Spliced}
 use Rattle.cuts.specs.Pad.{Padded}
 
@@ -307,22 +305,6 @@ filling-answer {rows} {padded} {k} {n} {found} {w} {r} few l p a s =
     }
 
 -- ---- rows
-pub span-more : (n e old new : ℕ) → n ≤ e → ((i : ℕ) → bit old i ≡ between n e i) → Plus (bit old) e (bit new) → (i : ℕ) → bit new i ≡ between n (e + 1) i
-span-more n e old new l h p i = ⊎-elim
-    (λ (q : i ≡ e). subst (λ (j : ℕ). bit new j ≡ between n (e + 1) j) (sym q) (p .self ∙ sym (between-in n (e + 1) e l (omega arith))))
-    (λ (q : i ≡ e → ⊥). p .other i q ∙ h i ∙ between-past q)
-    (same? i e)
-  where
-    between-past : (i ≡ e → ⊥) → between n e i ≡ between n (e + 1) i
-    between-past q = ⊎-elim
-        (λ (t : between n e i ≡ true). let a = between-from n e i t in let b = between-to n e i t in t ∙ sym (between-in n (e + 1) i a (omega arith)))
-        (λ (t : between n e i ≡ false). t ∙ sym (not-so (between n (e + 1) i) (λ u.
-        let a = between-from n (e + 1) i u in let b = between-to n (e + 1) i u in clash (between-in n e i a (omega arith)) t)))
-        (holds? (between n e i))
-
-pub span-start : (n i : ℕ) → bit 0 i ≡ between n n i
-span-start n i = bit-none i ∙ sym (not-so (between n n i) (λ u. let a = between-from n n i u in let b = between-to n n i u in omega arith))
-
 -- the rows before m
 pub record PaddedTo (rows : List ℕ) (n k m : ℕ) (r : List ℕ) : Type 0 where
   pub size : length r ≡ 32

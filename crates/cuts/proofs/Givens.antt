@@ -1,8 +1,8 @@
 -- What is given at a place: joined, and the lesser of two. Assumes nothing.
 use mathlib.Core.Path.{_≡_, refl, sym, ap, ap₂, _∙_, subst}
-use mathlib.Core.Logic.{_⊎_, inl, inr, ⊎-elim}
+use mathlib.Core.Logic.{_⊎_, ⊎-elim}
 use mathlib.Core.Bool.{Bool, true, false}
-use mathlib.Core.List.{List, [], _∷_, _++_}
+use mathlib.Core.List.{List, [], _∷_}
 use Prim.Native.Nat.{ℕ, zero, suc, _+_, _-_, _≤_, _<_}
 use native.Mathlib.Omega.{arith}
 use lib.ListN.{length, getD, set, replicate, length-set, length-replicate, getD-replicate}
@@ -10,7 +10,7 @@ use lib.Seq.{slice, slice-cons, slice-empty, length-slice, getD-set-same, getD-s
 use Rattle.assign.specs.Order.{earlier, choose, First, Joins}
 use Rattle.assign.specs.Rows.{between, may, cnt}
 use Rattle.assign.specs.Assignment.{takes, Assigns, Answer}
-use Rattle.assign.proofs.Lemmas.{same?, below?, holds?, clash, not-so, between-in, between-from, between-to, hit, miss}
+use Rattle.assign.proofs.Lemmas.{same?, below?, clash, not-so, between-in, between-from, between-to, hit, miss}
 use Rattle.assign.proofs.Laws.{earlier-irreflexive, first-same, first-joins, none-joins-left, none-joins-right, first-union, first-union-left, first-union-right}
 use Rattle.assign.proofs.Pieces.{slice-at}
 use Rattle.assign.proofs.Groups.{takes-spare, takes-member}

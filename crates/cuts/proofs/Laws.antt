@@ -1,17 +1,17 @@
 -- Laws of cuts, for the crates above. Assumes nothing.
 -- cuts-length: a cut has a byte for each element. cuts-snoc, cuts-unsnoc: the last block's piece ends a cut.
 -- slice-split: a piece of a list is split at a middle place. passing-true, passing-false: a test that is known.
-use mathlib.Core.Path.{_≡_, refl, sym, ap, ap₂, _∙_, subst}
+use mathlib.Core.Path.{_≡_, refl, sym, ap, _∙_, subst}
 use mathlib.Core.Bool.{Bool, true, false}
 use mathlib.Core.List.{List, [], _∷_, _++_, append-assoc, append-nil}
-use Prim.Native.Nat.{ℕ, zero, suc, _+_, _-_, _≤_, _<_}
+use Prim.Native.Nat.{ℕ, _+_, _-_, _≤_}
 use native.Mathlib.Omega.{arith}
 use lib.ListN.{length, take, drop, length-append, length-take, take-append-drop}
 use lib.Seq.{slice, take-take, drop-append-le}
 use Rattle.assign.specs.Order.{Joins}
 use Rattle.assign.proofs.Lemmas.{clash}
 use Rattle.blocks.specs.declared.Block.{Block}
-use Rattle.cuts.specs.Cut.{Takes, CutAt, Cuts, Passing}
+use Rattle.cuts.specs.Cut.{Takes, Cuts, Passing}
 
 -- ---- tests
 pub passing-true : {P : Type 0} → P → Passing P true

@@ -1,13 +1,13 @@
 -- The table, one block more in front at a time. Assumes nothing.
 use mathlib.Core.Path.{_≡_, refl, sym, ap, ap₂, _∙_, subst}
 use mathlib.Core.Logic.{_⊎_, inl, inr, ⊎-elim}
-use mathlib.Core.Bool.{Bool, true, false}
+use mathlib.Core.Bool.{true, false}
 use mathlib.Core.List.{List, [], _∷_, _++_}
 use Prim.Native.Nat.{ℕ, zero, suc, _+_, _-_, _≤_, _<_, min, suc-le-suc}
 use native.Mathlib.Numerals.{add-one}
 use native.Mathlib.Omega.{arith}
-use lib.ListN.{length, getD, set, take, drop, replicate, drop-of-length-le, length-replicate, getD-replicate, length-set, length-take}
-use lib.Seq.{slice, slice-empty, drop-cons, getD-take, getD-set-same, getD-set-other}
+use lib.ListN.{length, getD, take, drop, replicate, drop-of-length-le, length-replicate, getD-replicate, length-take}
+use lib.Seq.{slice, slice-empty, drop-cons, getD-take}
 use Rattle.assign.specs.Order.{earlier, First, Joins}
 use Rattle.assign.specs.Rows.{between}
 use Rattle.assign.specs.Assignment.{Assigns}
@@ -16,7 +16,7 @@ use Rattle.assign.proofs.Groups.{takes-spare}
 use Rattle.assign.proofs.Lemmas.{same?, holds?, clash, not-so, between-to}
 use Rattle.blocks.specs.declared.Block.{Block}
 use Rattle.cuts.specs.declared.Suffix.{Suffix}
-use Rattle.cuts.specs.Cut.{Takes, CutAt, Cuts, Inside, Best, Cutting}
+use Rattle.cuts.specs.Cut.{Takes, Cuts, Inside, Cutting}
 use Rattle.cuts.specs.Table.{Given, nothing, entry, Written, shortest, longest, together, Tabled, Prepended, Kept, alone, CutBefore}
 use Rattle.cuts.proofs.Bytes.{blank-entry}
 use Rattle.cuts.proofs.Givens.{given-none, given-same, kept-union, joined-spare, spare-bytes}

@@ -4,22 +4,8 @@ ghost use mathlib.Core.Bool.{_||_};
 ghost use Prim.Native.Nat.{ℕ, _≤_};
 ghost use Rattle.assign.specs.Rows.{bit, between};
 ghost use Rattle.cuts.specs.Pad.{Padded};
-use assign::mask::with;
+use assign::mask::span;
 use assign::rows::choices;
-
-// The numbers n .. k - 1.
-fn span(n: u8, k: u8) -> u32
-    requires { ⌜ (n ≤ k) × (k ≤ 32) ⌝ }
-    ensures { λ r. ⌜ ((e : ℕ) → bit r e ≡ between n k e) ⌝ }
-{
-    let mut r: u32 = 0;
-    let mut e = n;
-    while e < k {
-        r = with(r, e);
-        e += 1;
-    }
-    r
-}
 
 // What is in a or in b.
 fn union(a: u32, b: u32) -> u32

@@ -11,20 +11,18 @@ use native.Mathlib.Nat.{zero-add}
 use borrow.Author.Tests.{eqb-true, eq-eqb, leb-true, le-leb}
 use lib.Dec.{eqb, leb}
 use lib.ListN.{length, getD, take, drop, length-append, length-drop}
-use lib.Seq.{length-take-le, take-length, drop-length, drop-append-seam, take-append-seam}
-use Rattle.assign.specs.Order.{Joins}
+use lib.Seq.{length-take-le, drop-append-seam, take-append-seam}
 use Rattle.assign.specs.Rows.{may, cnt}
-use Rattle.assign.specs.Assignment.{allOnce}
-use Rattle.assign.proofs.Lemmas.{holds?, and-left, and-right, both, one-of, or-left, or-right, same?, hit, miss}
+use Rattle.assign.proofs.Lemmas.{and-left, and-right, both, one-of, or-left, or-right, same?, hit, miss}
 use Rattle.assign.proofs.Counting.{cnt-append}
 use Rattle.assign.proofs.Assignments.{once-test, test-once}
-use Rattle.cuts.specs.Cut.{Takes, CutAt, Cuts, Fills}
+use Rattle.cuts.specs.Cut.{Takes, Cuts, Fills}
 use Rattle.template.specs.Element.{Elem}
-use Rattle.template.specs.Template.{Star, noStar, star, Group, grouped, Item, one, spares, permutation, Body, recordOf, setOf, superset, subset, Length, Template, template, membersOfGroup, membersOfItem, membersOfItems, membersOf}
+use Rattle.template.specs.Template.{grouped, Item, one, spares, permutation, Body, recordOf, setOf, superset, subset, Length, template, membersOfGroup, membersOfItem, membersOfItems, membersOf}
 use Rattle.plan.specs.Members.{memberHits}
 use Rattle.template.specs.Blocks.{block, blockOfGroup, blockOfItem, blocksOfItems, blocksOf}
-use Rattle.matcher.specs.Obeys.{spare, rightBytes, noneTwice, someCut, cuts, groupTakes, itemTakes, bodyMet, lengthMet, obeysBy}
-use Rattle.matcher.proofs.Pieces.{MayByte, MayAll, may-append, may-left, may-right, OneOf, Within, Once, length-once, cnt-outside, Piece, PieceOf, takes-piece, piece-takes, group-says, group-test, item-says, item-test}
+use Rattle.matcher.specs.Obeys.{spare, rightBytes, noneTwice, someCut, cuts, itemTakes, bodyMet, lengthMet, obeysBy}
+use Rattle.matcher.proofs.Pieces.{MayByte, MayAll, may-append, may-left, may-right, Within, Once, length-once, cnt-outside, Piece, PieceOf, takes-piece, piece-takes, group-says, group-test, item-says, item-test}
 
 -- ---- the bytes are right where the rows say so
 

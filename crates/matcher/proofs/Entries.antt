@@ -6,20 +6,18 @@ use mathlib.Core.List.{List, [], _∷_, _++_, append-assoc}
 use Prim.Native.Nat.{ℕ, zero, suc, _+_, _≤_, _<_}
 use native.Mathlib.Omega.{arith}
 use native.Mathlib.Nat.{zero-add}
-use borrow.Author.Tests.{lt-ltb, le-ltb, eq-eqb, ne-eqb, leb-true, le-leb, lt-leb}
-use lib.Dec.{ltb, leb, eqb}
+use borrow.Author.Tests.{lt-ltb, le-ltb, eq-eqb, ne-eqb, le-leb}
+use lib.Dec.{leb}
 use lib.ListN.{length, getD, take, drop, set, replicate, length-replicate, length-append, length-drop}
 use lib.Seq.{length-take-le, drop-cons, take-suc, set-at}
 use lib.IntN.{ℤ, pos}
-use Rattle.assign.specs.Order.{First}
 use Rattle.assign.specs.Rows.{may}
-use Rattle.assign.proofs.Lemmas.{below?, and-left, and-right, both, holds?, clash, not-so}
+use Rattle.assign.proofs.Lemmas.{below?, and-right, both, clash, not-so}
 use Rattle.assign.proofs.Laws.{first-same}
 use Rattle.cuts.specs.Cut.{Cuts, Fills, Inside, Best, Passing}
 use Rattle.template.specs.Element.{Elem}
 use Rattle.template.specs.Leaf.{Leaf, leafHead}
-use Rattle.template.specs.Template.{Item, Group, grouped, one, spares, permutation, Body, recordOf, setOf, superset, subset, Length, anyLength, between, Template, template, membersOfGroup, membersOfItem, membersOfItems, membersOf}
-use Rattle.template.specs.Reading.{Read, refuse, got}
+use Rattle.template.specs.Template.{Item, grouped, one, spares, permutation, Body, recordOf, setOf, superset, subset, Length, anyLength, between, template, membersOfGroup, membersOfItem, membersOfItems, membersOf}
 use Rattle.template.specs.Whole.{readTemplate}
 use Rattle.element.specs.Matches.{matches}
 use Rattle.plan.specs.Members.{memberHits}
@@ -27,9 +25,9 @@ use Rattle.template.specs.Blocks.{blockOfGroup, blockOfItem, blocksOfItems, blo
 use Rattle.plan.specs.Contract.{Planned, PlanOf, noPlan, aPlan, RowsOf}
 use Rattle.plan.specs.declared.Plan.{Plan}
 use Rattle.matcher.specs.Obeys.{rightBytes, noneTwice, bodyMet, lengthMet, obeysBy, obeys}
-use Rattle.matcher.specs.Search.{Maybe, nothing, just, membersCount, firstWitness}
-use Rattle.matcher.specs.Answer.{Given, given, written, matchRead, matchAnswer, judgeRead, judgeAnswer}
-use Rattle.matcher.specs.Contract.{Ready, ByPlan, FirstBy, PassedBy}
+use Rattle.matcher.specs.Search.{nothing, membersCount}
+use Rattle.matcher.specs.Answer.{given, written, matchRead, matchAnswer, judgeRead, judgeAnswer}
+use Rattle.matcher.specs.Contract.{Ready, FirstBy, PassedBy}
 use Rattle.matcher.proofs.Bodies.{Agree, ByBlocks, obeys-says, obeys-test}
 use Rattle.matcher.proofs.Searches.{Obeys, witness-first, witness-none}
 

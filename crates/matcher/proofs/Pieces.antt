@@ -3,15 +3,15 @@
 -- Within m k p    <-> every byte of p is spare, or one of the members m .. m + k - 1
 -- Once m k p      <-> each of these members stands in p exactly once
 -- Piece m k min max p <-> the shape of a piece of the block: its members and spares, each member once, min to max spares
-use mathlib.Core.Path.{_≡_, refl, sym, ap, _∙_}
-use mathlib.Core.Bool.{Bool, true, false, _&&_, _||_}
+use mathlib.Core.Path.{_≡_, refl, sym, _∙_}
+use mathlib.Core.Bool.{true, _&&_, _||_}
 use mathlib.Core.Logic.{_⊎_, inl, inr, ⊎-elim}
 use mathlib.Core.List.{List, [], _∷_, _++_}
 use Prim.Native.Nat.{ℕ, zero, suc, _+_, _-_, _≤_, _<_}
 use native.Mathlib.Omega.{arith}
 use borrow.Author.Tests.{eqb-true, eq-eqb, leb-true, le-leb}
 use lib.Dec.{eqb, leb}
-use lib.ListN.{length, getD}
+use lib.ListN.{length}
 use Rattle.assign.specs.Rows.{may, between, cnt}
 use Rattle.assign.specs.Assignment.{takes, allRight, allOnce, assigns}
 use Rattle.assign.proofs.Lemmas.{and-left, and-right, both, one-of, or-left, or-right, between-in, between-from, between-to, hit, miss, same?}

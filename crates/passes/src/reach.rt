@@ -10,6 +10,7 @@ use crate::SPARE;
 use crate::places::has_place;
 use crate::places::with_place;
 use assign::mask::has;
+use assign::mask::span;
 use assign::mask::with;
 use assign::rows::may_take;
 use blocks::Block;
@@ -36,14 +37,7 @@ fn members_of(b: Block) -> u32
     requires { ⌜ b .first + b .k ≤ 32 ⌝ }
     ensures { λ r. ⌜ Group b r ⌝ }
 {
-    let end = b.first + b.k;
-    let mut all: u32 = 0;
-    let mut m = b.first;
-    while m < end {
-        all = with(all, m);
-        m += 1;
-    }
-    all
+    span(b.first, b.first + b.k)
 }
 
 // The last place of a list of n elements at which a piece of b that begins at `from` may end.

@@ -1,27 +1,22 @@
 -- Each public function's promise allows one result only, stated of the contract itself; of a plan, all that a reader of it uses.
 -- Assumes nothing.
-use mathlib.Core.Path.{_≡_, refl, sym, ap, _∙_}
-use mathlib.Core.Bool.{Bool}
+use mathlib.Core.Path.{_≡_, sym, ap, _∙_}
 use mathlib.Core.Logic.{⊎-elim}
-use mathlib.Core.List.{List, []}
-use Prim.Native.Nat.{ℕ, _+_, _≤_, _<_}
+use mathlib.Core.List.{List}
+use Prim.Native.Nat.{ℕ, _≤_, _<_}
 use native.Mathlib.Omega.{arith}
 use lib.ListN.{length, getD, take}
 use lib.Seq.{ext-getD, length-take-le}
-use lib.IntN.{ℤ, pos}
+use lib.IntN.{ℤ}
 use borrow.Fn.Kinds.{Dens, resT, endedOf}
 use contract.Lifetimes.{Lfts}
 use denote.Triple.Clauses.{AtExit}
 use Rattle.words.proofs.Cases.{below}
 use Rattle.template.specs.Element.{Elem}
-use Rattle.template.specs.Template.{Body, Length, template, membersOf}
-use Rattle.template.specs.Leaf.{Leaf, leafHead}
-use Rattle.template.specs.Reading.{refuse, got}
-use Rattle.template.specs.Whole.{readTemplate}
+use Rattle.template.specs.Template.{Body, Length}
+use Rattle.template.specs.Leaf.{Leaf}
 use Rattle.assign.specs.Rows.{bit, may}
 use Rattle.assign.proofs.Masks.{bits-same}
-use Rattle.blocks.specs.declared.Block.{Block}
-use Rattle.template.specs.Blocks.{blocksOf, isSubset, lowOf, highOf}
 use Rattle.plan.specs.Contract.{Planned, PlanOf, noPlan, aPlan, RowsOf}
 use Rattle.plan.specs.declared.Plan.{Plan}
 use Rattle.plan.proofs.plan_of.Reads as plan-of

@@ -5,13 +5,13 @@
 -- RowsOf es xs rows <-> bit e of row m says whether member m of es matches element e of xs; every other bit is clear
 -- Assumes nothing: these are definitions.
 use mathlib.Core.Path.{_≡_}
-use mathlib.Core.Bool.{Bool, true, false}
-use mathlib.Core.List.{List, [], _∷_}
+use mathlib.Core.Bool.{false}
+use mathlib.Core.List.{List, []}
 use Prim.Native.Nat.{ℕ, _≤_, _<_}
 use lib.ListN.{length, getD, take}
 use lib.IntN.{ℤ, pos}
 use Rattle.template.specs.Element.{Elem}
-use Rattle.template.specs.Template.{Body, Length, Template, template, membersOf}
+use Rattle.template.specs.Template.{Body, Length, template, membersOf}
 use Rattle.template.specs.Leaf.{Leaf, leafHead}
 use Rattle.template.specs.Reading.{refuse, got}
 use Rattle.template.specs.Whole.{readTemplate}

@@ -5,7 +5,6 @@ use mathlib.Core.Logic.{⊎-elim}
 use Prim.Native.Nat.{ℕ, _+_, _-_, _≤_}
 use native.Mathlib.Omega.{arith}
 use lib.ListN.{length}
-use borrow.Author.Needs.{needs}
 use Rattle.plan.proofs.Rows.{BitsTo, bits-start, bits-hit, bits-miss, Matched, matched, row-matched}
 use Rattle.plan.proofs.row_tested.Statement.{statement}
 use Rattle.plan.proofs.row_tested.Tie as tie

@@ -1,7 +1,7 @@
 -- `read` meets its contract. The invariant: the first i bytes of w are those of the place. The measure is the number of bytes left.
 -- Assumes nothing.
 use mathlib.Core.Path.{_≡_, refl}
-use Prim.Native.Nat.{ℕ, _+_, _-_, _*_, _≤_}
+use Prim.Native.Nat.{_+_, _-_, _*_, _≤_}
 use native.Mathlib.Omega.{arith}
 use borrow.Author.Needs.{needs}
 use Rattle.cuts.proofs.Bytes.{Fetched, fetch-start, fetch-step, fetch-end}

@@ -1,5 +1,5 @@
 -- `single` meets its contract: the row's bit decides. Assumes nothing.
-use mathlib.Core.Path.{_≡_, sym, _∙_}
+use mathlib.Core.Path.{sym, _∙_}
 use borrow.Author.Needs.{needs}
 use borrow.Author.Tests.{not-true, not-false}
 use Rattle.cuts.specs.Table.{fits, fails}

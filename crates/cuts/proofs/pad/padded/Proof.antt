@@ -9,7 +9,7 @@ use Rattle.cuts.proofs.pad.padded.Statement.{statement}
 use Rattle.cuts.proofs.pad.padded.Tie as tie
 use Rattle.cuts.proofs.pad.padded.Reads as reads
 use Rattle.cuts.proofs.pad.padded.Lts as lts
-use Rattle.cuts.proofs.pad.span.Reads as span-reads
+use Rattle.assign.proofs.mask.span.Reads as span-reads
 use Rattle.cuts.proofs.pad.union.Reads as union-reads
 use Rattle.assign.proofs.rows.choices.Reads as choices-reads
 
