@@ -11,9 +11,9 @@ use native.Mathlib.Omega.{arith}
 use lib.Dec.{eqb}
 use lib.ListN.{length, getD}
 use borrow.Author.Tests.{eqb-true, eq-eqb}
-use Rattle.assign.specs.Rows.{may, between, cnt}
+use Rattle.masks.specs.Rows.{may, between, cnt}
 use Rattle.assign.specs.Assignment.{takes, allRight, allOnce, assigns, Assigns}
-use Rattle.assign.proofs.Lemmas.{same?, and-left, and-right, both, between-in}
+use Rattle.masks.proofs.Lemmas.{same?, and-left, and-right, both, between-in}
 use Rattle.assign.proofs.Groups.{takes-inv, takes-spare, takes-member}
 
 right-test : (rows : List ℕ) (first k e : ℕ) (a : List ℕ) → ((i : ℕ) → i < length a → takes rows first k (e + i) (getD a i 0) ≡ true) → allRight rows first k e a ≡ true

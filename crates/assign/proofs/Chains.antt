@@ -9,10 +9,10 @@ use native.Mathlib.Omega.{arith}
 use lib.ListN.{length, getD, set, length-set}
 use lib.Seq.{getD-set-same, getD-set-other}
 use borrow.Author.Tests.{not-true}
-use Rattle.assign.specs.Rows.{may, between, cnt, count, Plus}
-use Rattle.assign.specs.Visit.{Flipped}
+use Rattle.masks.specs.Rows.{may, between, cnt, count, Plus}
+use Rattle.masks.specs.Visit.{Flipped}
 use Rattle.assign.specs.Chain.{Opened, Ready, reach, within, Owned, Served, Gave, Filled, Stuck, Settled, Placed}
-use Rattle.assign.proofs.Lemmas.{same?, below?, holds?, clash, not-so, between-in, between-from, between-to, and-left, and-right, both, one-of, or-left, or-right, hit, miss}
+use Rattle.masks.proofs.Lemmas.{same?, below?, holds?, clash, not-so, between-in, between-from, between-to, and-left, and-right, both, one-of, or-left, or-right, hit, miss}
 use Rattle.assign.proofs.Counting.{cnt-set, cnt-at, count-less}
 
 -- ---- the measures

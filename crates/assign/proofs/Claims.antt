@@ -7,10 +7,10 @@ use Prim.Native.Nat.{ℕ, _+_, _-_, _<_}
 use native.Mathlib.Omega.{arith}
 use lib.ListN.{length, getD}
 use lib.Seq.{slice, ext-getD}
-use Rattle.assign.specs.Rows.{between}
+use Rattle.masks.specs.Rows.{between}
 use Rattle.assign.specs.Assignment.{Answer}
 use Rattle.assign.specs.Claims.{Sound, Complete, Least, Unique, Explained, Tested}
-use Rattle.assign.proofs.Lemmas.{holds?, clash, not-so, between-from, between-to}
+use Rattle.masks.proofs.Lemmas.{holds?, clash, not-so, between-from, between-to}
 use Rattle.assign.proofs.Laws.{first-unique}
 use Rattle.assign.proofs.Groups.{short-never}
 use Rattle.assign.proofs.Pieces.{slice-at}

@@ -12,8 +12,8 @@ use native.Mathlib.Omega.{arith}
 use lib.Dec.{eqb, ltb}
 use lib.ListN.{length, getD, set, replicate}
 use borrow.Author.Tests.{eq-eqb, ne-eqb, lt-ltb, le-ltb}
-use Rattle.assign.specs.Rows.{oneIf, cnt, count, total, onlyIf, each, places, Stands}
-use Rattle.assign.proofs.Lemmas.{same?, below?, holds?, clash, hit, miss}
+use Rattle.masks.specs.Rows.{oneIf, cnt, count, total, onlyIf, each, places, Stands}
+use Rattle.masks.proofs.Lemmas.{same?, below?, holds?, clash, hit, miss}
 
 -- ---- cnt
 pub cnt-append : (v : ℕ) (a b : List ℕ) → cnt v (a ++ b) ≡ cnt v a + cnt v b

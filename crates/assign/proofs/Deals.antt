@@ -8,12 +8,12 @@ use native.Mathlib.Omega.{arith}
 use lib.Dec.{eqb}
 use lib.ListN.{length, getD, set, replicate, length-set, length-replicate, getD-replicate}
 use lib.Seq.{getD-set-same, getD-set-other}
-use Rattle.assign.specs.Rows.{oneIf, may, between, cnt}
+use Rattle.masks.specs.Rows.{oneIf, may, between, cnt}
 use Rattle.assign.specs.Assignment.{Short}
 use Rattle.assign.specs.Chain.{within, Served, Blocked}
 use Rattle.assign.specs.Saturate.{fits, Dealt}
 use Rattle.assign.specs.Refine.{Tries, Asks}
-use Rattle.assign.proofs.Lemmas.{same?, below?, and-left, and-right, both, between-in, between-from, between-to, hit, miss}
+use Rattle.masks.proofs.Lemmas.{same?, below?, and-left, and-right, both, between-in, between-from, between-to, hit, miss}
 use Rattle.assign.proofs.Counting.{cnt-set, cnt-at, cnt-place}
 use Rattle.assign.proofs.Groups.{blocked-never, blocked-short}
 

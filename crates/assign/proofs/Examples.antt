@@ -4,7 +4,7 @@ use mathlib.Core.Bool.{true, false}
 use mathlib.Core.List.{List, [], _∷_}
 use Prim.Native.Nat.{ℕ}
 use Rattle.assign.specs.Order.{earlier, choose, lesser}
-use Rattle.assign.specs.Rows.{bit, may, between, cnt, count, anyBelow}
+use Rattle.masks.specs.Rows.{bit, may, between, cnt, count, anyBelow}
 use Rattle.assign.specs.Assignment.{takes, allRight, allOnce, assigns, wanted, joined}
 
 -- the smaller byte at the first place where two lists differ

@@ -8,12 +8,12 @@ use native.Mathlib.Omega.{arith}
 use lib.Dec.{eqb}
 use lib.ListN.{length, getD, set, length-set}
 use lib.Seq.{getD-set-same, getD-set-other}
-use Rattle.assign.specs.Rows.{oneIf, may, between, cnt, Plus}
-use Rattle.assign.specs.Visit.{Flipped}
+use Rattle.masks.specs.Rows.{oneIf, may, between, cnt, Plus}
+use Rattle.masks.specs.Visit.{Flipped}
 use Rattle.assign.specs.Chain.{Opened, reach, within, Stuck, Blocked}
 use Rattle.assign.specs.Saturate.{Dealt}
 use Rattle.assign.specs.Refine.{Later, Rival, Rivals, Candidates, Agrees, Tries, Asks, Exchanged, Improved, Sooner, Leads}
-use Rattle.assign.proofs.Lemmas.{same?, below?, holds?, clash, not-so, and-left, both, between-from, between-to, hit, miss}
+use Rattle.masks.proofs.Lemmas.{same?, below?, holds?, clash, not-so, and-left, both, between-from, between-to, hit, miss}
 use Rattle.assign.proofs.Counting.{cnt-set, cnt-at, cnt-place, cnt-two}
 use Rattle.assign.proofs.Chains.{within-reach}
 use Rattle.assign.proofs.Groups.{blocked-never}

@@ -11,10 +11,10 @@ use native.Mathlib.Omega.{arith}
 use lib.Dec.{eqb}
 use lib.ListN.{length, getD}
 use borrow.Author.Tests.{eqb-true, eq-eqb}
-use Rattle.assign.specs.Rows.{may, between, cnt, count, anyBelow}
+use Rattle.masks.specs.Rows.{may, between, cnt, count, anyBelow}
 use Rattle.assign.specs.Assignment.{takes, Assigns, wanted, Short}
 use Rattle.assign.specs.Chain.{within, Blocked}
-use Rattle.assign.proofs.Lemmas.{same?, clash, and-left, and-right, both, one-of, or-left, or-right, between-in, between-from, between-to}
+use Rattle.masks.proofs.Lemmas.{same?, clash, and-left, and-right, both, one-of, or-left, or-right, between-in, between-from, between-to}
 use Rattle.assign.proofs.Counting.{count-places, places-count, places-le, places-into, places-onto}
 
 -- ---- a member below n

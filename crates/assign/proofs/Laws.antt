@@ -17,7 +17,7 @@ use lib.ListN.{length, getD, take, drop, take-append-drop}
 use lib.Seq.{length-take-le}
 use borrow.Author.Tests.{eq-eqb, ne-eqb, lt-ltb, le-ltb, ltb-true, eqb-true}
 use Rattle.assign.specs.Order.{earlier, choose, lesser, First, Joins, Starts}
-use Rattle.assign.proofs.Lemmas.{below?, holds?, clash, not-so, one-of, and-left, and-right}
+use Rattle.masks.proofs.Lemmas.{below?, holds?, clash, not-so, one-of, and-left, and-right}
 
 -- ---- the heads decide, or the tails do
 head-less : (x y : ℕ) (xs ys : List ℕ) → x < y → earlier (x ∷ xs) (y ∷ ys) ≡ true

@@ -1,7 +1,5 @@
-pub mod Lemmas
 pub mod Laws
 pub mod Counting
-pub mod Masks
 pub mod Chains
 pub mod Groups
 pub mod Assignments

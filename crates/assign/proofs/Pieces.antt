@@ -7,12 +7,12 @@ use Prim.Native.Nat.{ℕ, _+_, _-_, _≤_, _<_}
 use native.Mathlib.Omega.{arith}
 use lib.ListN.{length, getD, take, drop, replicate, length-append, length-take, length-drop, length-replicate, getD-replicate, take-append-drop, List·getD-append}
 use lib.Seq.{slice, length-slice, getD-take, getD-drop, getD-append-add, ext-getD}
-use Rattle.assign.specs.Rows.{may, between, cnt}
+use Rattle.masks.specs.Rows.{may, between, cnt}
 use Rattle.assign.specs.Order.{earlier, First}
 use Rattle.assign.specs.Assignment.{takes, Assigns, Short, Answer}
 use Rattle.assign.specs.Saturate.{fits, Dealt}
 use Rattle.assign.specs.Refine.{Agrees, Sooner, Leads}
-use Rattle.assign.proofs.Lemmas.{below?, clash, not-so, between-from, between-to}
+use Rattle.masks.proofs.Lemmas.{below?, clash, not-so, between-from, between-to}
 use Rattle.assign.proofs.Laws.{earlier-irreflexive, earlier-asymmetric, earlier-at}
 use Rattle.assign.proofs.Counting.{cnt-append, cnt-replicate, cnt-none}
 use Rattle.assign.proofs.Groups.{takes-inv, takes-spare, takes-member, short-never}

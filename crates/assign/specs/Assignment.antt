@@ -20,7 +20,7 @@ use lib.Dec.{eqb}
 use lib.ListN.{length, getD, replicate}
 use lib.Seq.{slice}
 use Rattle.assign.specs.Order.{First}
-use Rattle.assign.specs.Rows.{may, between, cnt, count, anyBelow}
+use Rattle.masks.specs.Rows.{may, between, cnt, count, anyBelow}
 
 unfoldable pub takes : List ℕ → ℕ → ℕ → ℕ → ℕ → Bool
 takes rows first k e x = eqb x 255 || (between first (first + k) x && may rows x e)

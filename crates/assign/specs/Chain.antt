@@ -20,7 +20,7 @@ use mathlib.Core.Bool.{Bool, true, false, _&&_, _||_}
 use mathlib.Core.List.{List}
 use Prim.Native.Nat.{ℕ, _+_, _≤_, _<_}
 use lib.ListN.{length, getD}
-use Rattle.assign.specs.Rows.{may, between, cnt}
+use Rattle.masks.specs.Rows.{may, between, cnt}
 
 pub record Opened (w : List ℕ) (from to : ℕ) (F H : ℕ → Bool) : Type 0 where
   pub free : (e : ℕ) → F e ≡ true → (between from to e ≡ true) × (32 ≤ getD w e 0)

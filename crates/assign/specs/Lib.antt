@@ -1,15 +1,12 @@
 -- The definitions of `assign`: the first assignment of a piece by a block.
 -- Order      == byte order on lists of bytes, and the first list of a kind
--- Rows       == which member may take which element, and counting
 -- Assignment == assignments of a piece by a block, and what `first_assignment` gives
 -- Claims     == what the crate promises, as statements
--- Visit, Chain, Saturate, Refine == what the private functions give
+-- Chain, Saturate, Refine == what the private functions give
 -- Assumes nothing: these are definitions.
 pub mod Order
-pub mod Rows
 pub mod Assignment
 pub mod Claims
-pub mod Visit
 pub mod Chain
 pub mod Saturate
 pub mod Refine

@@ -3,14 +3,14 @@ ghost use mathlib.Core.Path.{_≡_};
 ghost use mathlib.Core.Bool.{true};
 ghost use Prim.Native.Nat.{_<_, _≤_};
 ghost use lib.ListN.{set};
-ghost use Rattle.assign.specs.Rows.{bit};
+ghost use Rattle.masks.specs.Rows.{bit};
 ghost use Rattle.assign.specs.Chain.{Opened, Ready, Settled, Placed, within};
 use crate::Found;
-use crate::mask::has;
-use crate::mask::with;
-use crate::rows::choices;
 use crate::visit::flip;
 use crate::visit::lowest;
+use masks::has;
+use masks::rows::choices;
+use masks::with;
 
 // The places of a piece: the spare ones, and those that a member holds.
 pub struct Open {

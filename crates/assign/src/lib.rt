@@ -4,8 +4,6 @@ ghost use mathlib.Core.Path.{_≡_};
 ghost use Prim.Native.Nat.{_+_, _≤_};
 ghost use Rattle.assign.specs.Assignment.{Answer};
 
-pub mod mask; // sets of numbers below 32
-pub mod rows; // which member may take which element
 mod visit; // going through a mask, bit by bit
 mod chain; // one member more, by an alternating chain
 mod saturate; // an assignment, if there is one

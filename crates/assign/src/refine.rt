@@ -1,7 +1,7 @@
 // From an assignment to the first one in byte order: from left to right each element is given the least member that it can have.
 ghost use mathlib.Core.Path.{_≡_};
 ghost use Prim.Native.Nat.{ℕ, _+_, _<_, _≤_, min};
-ghost use Rattle.assign.specs.Rows.{bit, Stands};
+ghost use Rattle.masks.specs.Rows.{bit, Stands};
 ghost use Rattle.assign.specs.Saturate.{Dealt};
 ghost use Rattle.assign.specs.Refine.{Rivals, Candidates, Last, Later, Asks, Exchanged, Improved, Leads};
 use crate::Found;
@@ -9,10 +9,10 @@ use crate::SPARE;
 use crate::chain::open_places;
 use crate::chain::place;
 use crate::chain::settle;
-use crate::mask::with;
-use crate::rows::may_take;
 use crate::visit::flip;
 use crate::visit::lowest;
+use masks::rows::may_take;
+use masks::with;
 
 // The lesser of two.
 fn least(a: u8, b: u8) -> u8

@@ -6,8 +6,8 @@ use crate::Found;
 use crate::SPARE;
 use crate::chain::open_places;
 use crate::chain::settle;
-use crate::mask::with;
 use crate::visit::flip;
+use masks::with;
 
 pub fn saturate(rows: &[u32; 32], first: u8, k: u8, from: u8, to: u8) -> Found
     requires { ⌜ (first + k ≤ 32) × (from ≤ to) × (to ≤ 32) ⌝ }

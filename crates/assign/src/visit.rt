@@ -1,7 +1,7 @@
 // Going through a mask bit by bit: the lowest, and the mask without it.
 ghost use Prim.Native.Nat.{_<_};
-ghost use Rattle.assign.specs.Rows.{bit};
-ghost use Rattle.assign.specs.Visit.{Flipped, Lowest};
+ghost use Rattle.masks.specs.Rows.{bit};
+ghost use Rattle.masks.specs.Visit.{Flipped, Lowest};
 
 // The mask with bit k turned.
 pub fn flip(mask: u32, k: u8) -> u32

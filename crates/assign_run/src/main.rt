@@ -3,8 +3,8 @@
 ghost use Prim.Native.Nat.{_+_, _<_, _≤_};
 use assign::Found;
 use assign::first_assignment;
-use assign::mask::with;
 use libc::STDOUT_FILENO;
+use masks::with;
 
 fn letter(b: u8) -> u8 {
     if b < 10 {

@@ -8,7 +8,7 @@ use native.Mathlib.Omega.{arith}
 use lib.Dec.{eqb}
 use lib.ListN.{length, getD, set, length-set, replicate, length-replicate, getD-replicate}
 use lib.Seq.{slice, length-slice, getD-set-same, getD-set-other, ext-getD}
-use Rattle.assign.proofs.Lemmas.{same?, below?}
+use Rattle.masks.proofs.Lemmas.{same?, below?}
 use Rattle.assign.proofs.Pieces.{slice-at}
 use Rattle.cuts.specs.declared.Suffix.{Suffix}
 use Rattle.cuts.specs.Table.{nothing, entry, Written}

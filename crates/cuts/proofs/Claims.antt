@@ -8,7 +8,7 @@ use native.Mathlib.Omega.{arith}
 use lib.ListN.{length, getD, take, length-take}
 use lib.Seq.{getD-take, ext-getD}
 use Rattle.assign.specs.Order.{earlier}
-use Rattle.assign.proofs.Lemmas.{below?, holds?, clash, not-so}
+use Rattle.masks.proofs.Lemmas.{below?, holds?, clash, not-so}
 use Rattle.assign.proofs.Laws.{first-unique}
 use Rattle.cuts.specs.Cut.{Cuts, Fills, Best, Passing}
 use Rattle.cuts.specs.Claims.{UniqueCut, UniqueFilling, CutPasses, CutFound, FillingPasses, FillingFound}

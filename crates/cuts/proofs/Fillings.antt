@@ -10,9 +10,9 @@ use lib.ListN.{length, getD, set, take, drop, replicate, length-append, length-t
 use lib.Seq.{take-take, getD-take, getD-append-add, getD-set-same, getD-set-other, ext-getD}
 use borrow.Author.Tests.{eq-eqb, ne-eqb}
 use Rattle.assign.specs.Order.{earlier, First}
-use Rattle.assign.specs.Rows.{bit, may, between, oneIf, cnt, count}
+use Rattle.masks.specs.Rows.{bit, may, between, oneIf, cnt, count}
 use Rattle.assign.specs.Assignment.{takes, Assigns, Answer}
-use Rattle.assign.proofs.Lemmas.{same?, below?, clash, not-so, one-of, or-left, or-right, between-in, between-from, hit, miss}
+use Rattle.masks.proofs.Lemmas.{same?, below?, clash, not-so, one-of, or-left, or-right, between-in, between-from, hit, miss}
 use Rattle.assign.proofs.Laws.{earlier-append-left}
 use Rattle.assign.proofs.Counting.{cnt-append, count-places, count-less, places-into}
 use Rattle.assign.proofs.Groups.{takes-inv}

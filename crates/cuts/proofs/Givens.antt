@@ -8,9 +8,9 @@ use native.Mathlib.Omega.{arith}
 use lib.ListN.{length, getD, set, replicate, length-set, length-replicate, getD-replicate}
 use lib.Seq.{slice, slice-cons, slice-empty, length-slice, getD-set-same, getD-set-other, ext-getD}
 use Rattle.assign.specs.Order.{earlier, choose, First, Joins}
-use Rattle.assign.specs.Rows.{between, may, cnt}
+use Rattle.masks.specs.Rows.{between, may, cnt}
 use Rattle.assign.specs.Assignment.{takes, Assigns, Answer}
-use Rattle.assign.proofs.Lemmas.{same?, below?, clash, not-so, between-in, between-from, between-to, hit, miss}
+use Rattle.masks.proofs.Lemmas.{same?, below?, clash, not-so, between-in, between-from, between-to, hit, miss}
 use Rattle.assign.proofs.Laws.{earlier-irreflexive, first-same, first-joins, none-joins-left, none-joins-right, first-union, first-union-left, first-union-right}
 use Rattle.assign.proofs.Pieces.{slice-at}
 use Rattle.assign.proofs.Groups.{takes-spare, takes-member}

@@ -9,7 +9,7 @@ use native.Mathlib.Omega.{arith}
 use lib.ListN.{length, take, drop, length-append, length-take, take-append-drop}
 use lib.Seq.{slice, take-take, drop-append-le}
 use Rattle.assign.specs.Order.{Joins}
-use Rattle.assign.proofs.Lemmas.{clash}
+use Rattle.masks.proofs.Lemmas.{clash}
 use Rattle.blocks.specs.declared.Block.{Block}
 use Rattle.cuts.specs.Cut.{Takes, Cuts, Passing}
 

@@ -11,7 +11,7 @@ use lib.ListN.{length, getD, set, take, drop, length-append, length-set, List·g
 use lib.Seq.{slice, slice-empty, slice-cons, length-slice, getD-append-add, getD-set-same, getD-set-other, ext-getD}
 use borrow.Author.Tests.{eq-eqb, ne-eqb, le-ltb}
 use Rattle.assign.specs.Order.{earlier}
-use Rattle.assign.proofs.Lemmas.{same?, below?}
+use Rattle.masks.proofs.Lemmas.{same?, below?}
 use Rattle.assign.proofs.Pieces.{slice-at}
 use Rattle.cuts.specs.Table.{Spliced}
 

@@ -9,11 +9,11 @@ use native.Mathlib.Omega.{arith}
 use lib.ListN.{length, getD, take, drop, replicate, drop-of-length-le, length-replicate, getD-replicate, length-take}
 use lib.Seq.{slice, slice-empty, drop-cons, getD-take}
 use Rattle.assign.specs.Order.{earlier, First, Joins}
-use Rattle.assign.specs.Rows.{between}
+use Rattle.masks.specs.Rows.{between}
 use Rattle.assign.specs.Assignment.{Assigns}
 use Rattle.assign.proofs.Laws.{none-joins-right}
 use Rattle.assign.proofs.Groups.{takes-spare}
-use Rattle.assign.proofs.Lemmas.{same?, holds?, clash, not-so, between-to}
+use Rattle.masks.proofs.Lemmas.{same?, holds?, clash, not-so, between-to}
 use Rattle.blocks.specs.declared.Block.{Block}
 use Rattle.cuts.specs.declared.Suffix.{Suffix}
 use Rattle.cuts.specs.Cut.{Takes, Cuts, Inside, Cutting}

@@ -16,7 +16,7 @@ use mathlib.Core.List.{List, [], _∷_}
 use Prim.Native.Nat.{ℕ, _+_, _-_, _≤_, _<_}
 use lib.ListN.{length, getD, take, replicate}
 use Rattle.assign.specs.Order.{First, Joins}
-use Rattle.assign.specs.Rows.{may, cnt}
+use Rattle.masks.specs.Rows.{may, cnt}
 use Rattle.assign.specs.Assignment.{Assigns}
 use Rattle.blocks.specs.declared.Block.{Block}
 

@@ -6,7 +6,7 @@ use mathlib.Core.Bool.{Bool, _||_}
 use mathlib.Core.List.{List}
 use Prim.Native.Nat.{ℕ, _<_}
 use lib.ListN.{length}
-use Rattle.assign.specs.Rows.{may, between}
+use Rattle.masks.specs.Rows.{may, between}
 
 pub record Padded (rows : List ℕ) (n k : ℕ) (r : List ℕ) : Type 0 where
   pub size : length r ≡ 32

@@ -20,7 +20,7 @@ use lib.Dec.{eqb}
 use lib.ListN.{length, getD, set, replicate}
 use lib.Seq.{slice}
 use Rattle.assign.specs.Order.{First, Joins, earlier}
-use Rattle.assign.specs.Rows.{between, may}
+use Rattle.masks.specs.Rows.{between, may}
 use Rattle.blocks.specs.declared.Block.{Block}
 use Rattle.cuts.specs.declared.Suffix.{Suffix}
 use Rattle.cuts.specs.Cut.{Takes, Cuts}

@@ -11,8 +11,8 @@ ghost use Rattle.cuts.specs.Table.{Given, Spliced, Kept, Single};
 use crate::SPARE;
 use crate::Suffix;
 use assign::first_assignment;
-use assign::rows::may_take;
 use blocks::Block;
+use masks::rows::may_take;
 
 // Whether a comes before b in byte order, by the places from .. to - 1.
 pub fn comes_before(a: [u8; 32], b: [u8; 32], from: usize, to: usize) -> bool

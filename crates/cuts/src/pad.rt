@@ -2,10 +2,10 @@
 ghost use mathlib.Core.Path.{_≡_};
 ghost use mathlib.Core.Bool.{_||_};
 ghost use Prim.Native.Nat.{ℕ, _≤_};
-ghost use Rattle.assign.specs.Rows.{bit, between};
+ghost use Rattle.masks.specs.Rows.{bit, between};
 ghost use Rattle.cuts.specs.Pad.{Padded};
-use assign::mask::span;
-use assign::rows::choices;
+use masks::rows::choices;
+use masks::span;
 
 // What is in a or in b.
 fn union(a: u32, b: u32) -> u32

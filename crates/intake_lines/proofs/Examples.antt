@@ -5,7 +5,7 @@ use mathlib.Core.Bool.{Bool, true, false, _&&_}
 use Prim.Native.Nat.{ℕ}
 use lib.Dec.{eqb}
 use Rattle.words.specs.Integer.{signed, intAt}
-use Rattle.assign.specs.Rows.{between, cnt}
+use Rattle.masks.specs.Rows.{between, cnt}
 use Rattle.assign.specs.Assignment.{allOnce}
 use Rattle.template.specs.Template.{membersOfGroup, membersOfItem, membersOfItems, membersOf}
 use Rattle.template.specs.Record.{countFault, boundsFault, groupHead, head}

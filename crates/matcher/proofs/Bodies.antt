@@ -12,8 +12,8 @@ use borrow.Author.Tests.{eqb-true, eq-eqb, leb-true, le-leb}
 use lib.Dec.{eqb, leb}
 use lib.ListN.{length, getD, take, drop, length-append, length-drop}
 use lib.Seq.{length-take-le, drop-append-seam, take-append-seam}
-use Rattle.assign.specs.Rows.{may, cnt}
-use Rattle.assign.proofs.Lemmas.{and-left, and-right, both, one-of, or-left, or-right, same?, hit, miss}
+use Rattle.masks.specs.Rows.{may, cnt}
+use Rattle.masks.proofs.Lemmas.{and-left, and-right, both, one-of, or-left, or-right, same?, hit, miss}
 use Rattle.assign.proofs.Counting.{cnt-append}
 use Rattle.assign.proofs.Assignments.{once-test, test-once}
 use Rattle.cuts.specs.Cut.{Takes, Cuts, Fills}
@@ -213,12 +213,12 @@ module _ {L : Type 0} (rows : List ℕ) where
             ⊎-elim
             (λ (b : v < m). let zp = cnt-outside m k v p pw n (inl b) in omega arith)
             (λ (b : m ≤ v). let zp : cnt v p ≡ 1 = t .0 .once v (omega (arith, size .1)) (omega (arith, size .0, size .1)) in omega arith)
-            (Rattle.assign.proofs.Lemmas.below? v m))
+            (Rattle.masks.proofs.Lemmas.below? v m))
             (λ (high : m + k ≤ v).
             let zp = cnt-outside m k v p pw n (inr high) in
             let uq = u .few v n in
             omega arith)
-            (Rattle.assign.proofs.Lemmas.below? v (m + k));
+            (Rattle.masks.proofs.Lemmas.below? v (m + k));
       })
 
 -- ---- a set of and a superset: one block over the whole list

@@ -11,8 +11,8 @@ use lib.Dec.{leb}
 use lib.ListN.{length, getD, take, drop, set, replicate, length-replicate, length-append, length-drop}
 use lib.Seq.{length-take-le, drop-cons, take-suc, set-at}
 use lib.IntN.{ℤ, pos}
-use Rattle.assign.specs.Rows.{may}
-use Rattle.assign.proofs.Lemmas.{below?, and-right, both, clash, not-so}
+use Rattle.masks.specs.Rows.{may}
+use Rattle.masks.proofs.Lemmas.{below?, and-right, both, clash, not-so}
 use Rattle.assign.proofs.Laws.{first-same}
 use Rattle.cuts.specs.Cut.{Cuts, Fills, Inside, Best, Passing}
 use Rattle.template.specs.Element.{Elem}

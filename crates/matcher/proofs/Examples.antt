@@ -8,7 +8,7 @@ use lib.Dec.{eqb}
 use lib.ListN.{length, replicate}
 use lib.IntN.{ℤ, pos, negsuc}
 use Rattle.words.specs.Integer.{signed, intAt}
-use Rattle.assign.specs.Rows.{between, cnt}
+use Rattle.masks.specs.Rows.{between, cnt}
 use Rattle.assign.specs.Assignment.{allOnce}
 use Rattle.template.specs.Template.{membersOfGroup, membersOfItem, membersOfItems, membersOf}
 use Rattle.template.specs.Record.{countFault, boundsFault, groupHead, head}

@@ -12,9 +12,9 @@ use native.Mathlib.Omega.{arith}
 use borrow.Author.Tests.{eqb-true, eq-eqb, leb-true, le-leb}
 use lib.Dec.{eqb, leb}
 use lib.ListN.{length}
-use Rattle.assign.specs.Rows.{may, between, cnt}
+use Rattle.masks.specs.Rows.{may, between, cnt}
 use Rattle.assign.specs.Assignment.{takes, allRight, allOnce, assigns}
-use Rattle.assign.proofs.Lemmas.{and-left, and-right, both, one-of, or-left, or-right, between-in, between-from, between-to, hit, miss, same?}
+use Rattle.masks.proofs.Lemmas.{and-left, and-right, both, one-of, or-left, or-right, between-in, between-from, between-to, hit, miss, same?}
 use Rattle.assign.proofs.Assignments.{assigns-test, test-assigns, once-test, test-once}
 use Rattle.cuts.specs.Cut.{Takes}
 use Rattle.template.specs.Template.{Star, noStar, star, Group, grouped, Item, one, spares, permutation}

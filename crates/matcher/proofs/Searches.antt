@@ -10,7 +10,7 @@ use lib.Dec.{eqb, ltb}
 use lib.ListN.{length}
 use lib.IntN.{ℤ}
 use Rattle.assign.specs.Order.{earlier, First}
-use Rattle.assign.proofs.Lemmas.{and-left, and-right, one-of, same?, below?, holds?}
+use Rattle.masks.proofs.Lemmas.{and-left, and-right, one-of, same?, below?, holds?}
 use Rattle.assign.proofs.Laws.{earlier-total}
 use Rattle.template.specs.Element.{Elem}
 use Rattle.template.specs.Leaf.{Leaf}

@@ -22,7 +22,7 @@ use Prim.Native.Nat.{ℕ, zero, suc, _+_}
 use lib.Dec.{eqb, leb, ltb}
 use lib.ListN.{length, take, drop}
 use lib.IntN.{ℤ}
-use Rattle.assign.specs.Rows.{between, cnt}
+use Rattle.masks.specs.Rows.{between, cnt}
 use Rattle.assign.specs.Assignment.{allOnce}
 use Rattle.template.specs.Element.{Elem}
 use Rattle.template.specs.Leaf.{Leaf}

@@ -7,9 +7,9 @@ use Prim.Native.Nat.{ℕ, _+_, _≤_, _<_}
 use native.Mathlib.Omega.{arith}
 use lib.ListN.{length, getD, take, drop, take-append-drop}
 use lib.Seq.{take-length}
-use Rattle.assign.specs.Rows.{bit, may, between, oneIf, cnt, Plus}
+use Rattle.masks.specs.Rows.{bit, may, between, oneIf, cnt, Plus}
 use Rattle.assign.specs.Assignment.{takes}
-use Rattle.assign.proofs.Lemmas.{same?, holds?, between-in, between-to, hit}
+use Rattle.masks.proofs.Lemmas.{same?, holds?, between-in, between-to, hit}
 use Rattle.assign.proofs.Counting.{cnt-append}
 use Rattle.assign.proofs.Groups.{takes-inv}
 use Rattle.blocks.specs.declared.Block.{Block}

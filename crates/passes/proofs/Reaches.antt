@@ -8,9 +8,9 @@ use native.Mathlib.Numerals.{add-one}
 use native.Mathlib.Omega.{arith}
 use lib.ListN.{length, getD, take, drop, take-append-drop}
 use lib.Seq.{slice, take-suc, take-take, take-at, drop-at, take-length}
-use Rattle.assign.specs.Rows.{bit, Plus}
-use Rattle.assign.proofs.Lemmas.{same?, holds?, clash}
-use Rattle.assign.proofs.Masks.{bit-none}
+use Rattle.masks.specs.Rows.{bit, Plus}
+use Rattle.masks.proofs.Lemmas.{same?, holds?, clash}
+use Rattle.masks.proofs.Masks.{bit-none}
 use Rattle.blocks.specs.declared.Block.{Block}
 use Rattle.cuts.specs.Cut.{Takes, Cuts, Passing}
 use Rattle.passes.specs.Reach.{Reached, Ends}

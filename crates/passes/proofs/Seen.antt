@@ -9,11 +9,11 @@ use native.Mathlib.Omega.{arith}
 use lib.Dec.{eqb}
 use lib.ListN.{length, getD}
 use lib.Seq.{slice, slice-empty, slice-cons, length-slice}
-use Rattle.assign.specs.Rows.{bit, may, between, oneIf, cnt, Plus}
+use Rattle.masks.specs.Rows.{bit, may, between, oneIf, cnt, Plus}
 use Rattle.assign.specs.Assignment.{takes, Assigns}
-use Rattle.assign.proofs.Lemmas.{same?, holds?, clash, between-in, between-from, between-to, hit, miss}
+use Rattle.masks.proofs.Lemmas.{same?, holds?, clash, between-in, between-from, between-to, hit, miss}
 use Rattle.assign.proofs.Counting.{cnt-append}
-use Rattle.assign.proofs.Masks.{bit-none, bits-same}
+use Rattle.masks.proofs.Masks.{bit-none, bits-same}
 use Rattle.assign.proofs.Groups.{takes-inv}
 use Rattle.assign.proofs.Pieces.{slice-at}
 use Rattle.assign.proofs.Groups.{takes-spare, takes-member}

@@ -7,8 +7,8 @@ use Prim.Native.Nat.{ℕ, _+_, _≤_, _<_, min}
 use native.Mathlib.Omega.{arith}
 use lib.ListN.{length, getD}
 use lib.Seq.{slice}
-use Rattle.assign.specs.Rows.{bit, Plus}
-use Rattle.assign.proofs.Lemmas.{same?, below?, clash}
+use Rattle.masks.specs.Rows.{bit, Plus}
+use Rattle.masks.proofs.Lemmas.{same?, below?, clash}
 use Rattle.blocks.specs.declared.Block.{Block}
 use Rattle.cuts.specs.Cut.{Takes, Passing}
 use Rattle.passes.specs.Reach.{Fresh, Good, Group, Whole, Marked, marked, unmarked, Ends}

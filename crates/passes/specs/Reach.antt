@@ -13,7 +13,7 @@ use mathlib.Core.List.{List}
 use Prim.Native.Nat.{ℕ, _+_, _-_, _≤_, _<_}
 use lib.ListN.{length, getD, take}
 use lib.Seq.{slice}
-use Rattle.assign.specs.Rows.{bit, may, between, oneIf, cnt, Plus}
+use Rattle.masks.specs.Rows.{bit, may, between, oneIf, cnt, Plus}
 use Rattle.assign.specs.Assignment.{takes}
 use Rattle.blocks.specs.declared.Block.{Block}
 use Rattle.cuts.specs.Cut.{Takes, Cuts, Passing}

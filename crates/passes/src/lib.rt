@@ -2,8 +2,8 @@
 ghost use Prim.Native.Nat.{_≤_};
 ghost use lib.ListN.{take, length};
 ghost use Rattle.cuts.specs.Cut.{Inside, Cuts, Fills, Passing};
-use assign::mask::with;
 use blocks::Block;
+use masks::with;
 use places::has_place;
 use reach::fresh;
 

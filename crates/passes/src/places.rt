@@ -1,7 +1,7 @@
 // Sets of the places 0 .. 32 of a list as masks: one place more than a u32 has bits. No proof above these functions sees a shift.
 ghost use mathlib.Core.Path.{_≡_};
 ghost use Prim.Native.Nat.{_<_};
-ghost use Rattle.assign.specs.Rows.{bit, Plus};
+ghost use Rattle.masks.specs.Rows.{bit, Plus};
 
 // Whether the place p is in the mask.
 pub fn has_place(places: u64, p: usize) -> bool

@@ -9,11 +9,11 @@ ghost use Rattle.passes.specs.Reach.{Reached, Fresh, Group, Whole, Marke
 use crate::SPARE;
 use crate::places::has_place;
 use crate::places::with_place;
-use assign::mask::has;
-use assign::mask::span;
-use assign::mask::with;
-use assign::rows::may_take;
 use blocks::Block;
+use masks::has;
+use masks::rows::may_take;
+use masks::span;
+use masks::with;
 
 // Whether x is a member of the block that may take e, and is not among the members yet.
 pub fn fresh(rows: &[u32; 32], b: Block, members: u32, e: u8, x: u8) -> bool

@@ -20,8 +20,8 @@ use Rattle.template.specs.Reading.{got, counted, outermost}
 use Rattle.element.specs.Matches.{matches}
 use Rattle.element.specs.Contract.{ElementAt, HitAt}
 use Rattle.element.proofs.Laws.{Between, single-between, range-between, any-between}
-use Rattle.assign.specs.Rows.{bit, may, Plus}
-use Rattle.assign.proofs.Masks.{bit-none}
+use Rattle.masks.specs.Rows.{bit, may, Plus}
+use Rattle.masks.proofs.Masks.{bit-none}
 use Rattle.plan.specs.Members.{memberHits}
 use Rattle.template.specs.Blocks.{StandsAt, Standing}
 use Rattle.plan.specs.Contract.{RowsOf}

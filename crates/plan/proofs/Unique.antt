@@ -15,8 +15,8 @@ use Rattle.words.proofs.Cases.{below}
 use Rattle.template.specs.Element.{Elem}
 use Rattle.template.specs.Template.{Body, Length}
 use Rattle.template.specs.Leaf.{Leaf}
-use Rattle.assign.specs.Rows.{bit, may}
-use Rattle.assign.proofs.Masks.{bits-same}
+use Rattle.masks.specs.Rows.{bit, may}
+use Rattle.masks.proofs.Masks.{bits-same}
 use Rattle.plan.specs.Contract.{Planned, PlanOf, noPlan, aPlan, RowsOf}
 use Rattle.plan.specs.declared.Plan.{Plan}
 use Rattle.plan.proofs.plan_of.Reads as plan-of

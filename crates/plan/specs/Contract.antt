@@ -16,7 +16,7 @@ use Rattle.template.specs.Leaf.{Leaf, leafHead}
 use Rattle.template.specs.Reading.{refuse, got}
 use Rattle.template.specs.Whole.{readTemplate}
 use Rattle.element.specs.Matches.{matches}
-use Rattle.assign.specs.Rows.{may}
+use Rattle.masks.specs.Rows.{may}
 use Rattle.template.specs.Blocks.{blocksOf, isSubset, lowOf, highOf, Standing}
 use Rattle.plan.specs.Members.{memberHits}
 use Rattle.plan.specs.declared.Plan.{Plan}

@@ -17,7 +17,7 @@ use Rattle.template.specs.Leaf.{Leaf, leafHead}
 use Rattle.template.specs.Reading.{got, counted, outermost}
 use Rattle.template.specs.Blocks.{Standing}
 use Rattle.element.specs.Matches.{matches}
-use Rattle.assign.specs.Rows.{bit}
+use Rattle.masks.specs.Rows.{bit}
 
 pub record MembersAt (t places : List ℕ) (members : ℕ) : Type 0 where
   pub few : members ≤ 32

@@ -10,7 +10,7 @@ use lib.ListN.{length, take, drop}
 use lib.IntN.{ℤ}
 use Rattle.words.specs.Integer.{signed, intAt, intBytes}
 use Rattle.words.proofs.Cases.{by-test}
-use Rattle.assign.specs.Rows.{between, cnt}
+use Rattle.masks.specs.Rows.{between, cnt}
 use Rattle.assign.specs.Assignment.{allOnce}
 use Rattle.template.specs.Element.{Elem}
 use Rattle.template.specs.Leaf.{Leaf, singleHead, rangeHead, leafHead}

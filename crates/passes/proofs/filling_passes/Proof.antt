@@ -11,7 +11,7 @@ use Rattle.passes.proofs.filling_passes.Statement.{statement}
 use Rattle.passes.proofs.filling_passes.Tie as tie
 use Rattle.passes.proofs.filling_passes.Reads as reads
 use Rattle.passes.proofs.filling_passes.Lts as lts
-use Rattle.assign.proofs.mask.with.Reads as with-reads
+use Rattle.masks.proofs.with.Reads as with-reads
 use Rattle.passes.proofs.reach.fresh.Reads as fresh-reads
 
 abbrev Inv-loop : tie.InvT-loop

@@ -10,7 +10,7 @@ use Rattle.plan.proofs.row_tested.Statement.{statement}
 use Rattle.plan.proofs.row_tested.Tie as tie
 use Rattle.plan.proofs.row_tested.Reads as reads
 use Rattle.plan.proofs.row_tested.Lts as lts
-use Rattle.assign.proofs.mask.with.Reads as with-reads
+use Rattle.masks.proofs.with.Reads as with-reads
 use Rattle.element.proofs.match_element.Reads as match-element-reads
 
 abbrev Inv-loop : tie.InvT-loop

@@ -15,7 +15,7 @@ use Rattle.plan.proofs.row_within.Statement.{statement}
 use Rattle.plan.proofs.row_within.Tie as tie
 use Rattle.plan.proofs.row_within.Reads as reads
 use Rattle.plan.proofs.row_within.Lts as lts
-use Rattle.assign.proofs.mask.with.Reads as with-reads
+use Rattle.masks.proofs.with.Reads as with-reads
 use Rattle.words.proofs.within.Reads as within-reads
 
 abbrev Inv-loop : tie.InvT-loop

@@ -12,19 +12,19 @@ use borrow.Author.Tests.{not-true, not-false}
 use native.Mathlib.Omega.{arith}
 use borrow.Fn.Kinds.{In}
 use borrow.Fn.PlainCycle.{Measures, is, falls, and}
-use Rattle.assign.specs.Rows.{bit, may, count}
-use Rattle.assign.proofs.Lemmas.{clash}
-use Rattle.assign.proofs.Masks.{row-bits, row-none}
+use Rattle.masks.specs.Rows.{bit, may, count}
+use Rattle.masks.proofs.Lemmas.{clash}
+use Rattle.masks.proofs.Masks.{row-bits, row-none}
 use Rattle.assign.proofs.Chains.{Walk, unseen, unseen-falls, left-falls, flipped-down, reach-free, begin, turn-seen, turn-stuck, turn-gave, finish, give-spare, filled-spare, filled-chain, settled-found}
 use Rattle.assign.proofs.chain.settle.Reads as settle
 use Rattle.assign.proofs.chain.settle.Kinds as settle-kinds
 use Rattle.assign.proofs.chain.+settle.Lts-settle as lts
 use Rattle.assign.proofs.chain.give.Reads as give-reads
 use Rattle.assign.proofs.visit.flip.Reads as flip-reads
-use Rattle.assign.proofs.mask.has.Reads as has-reads
+use Rattle.masks.proofs.has.Reads as has-reads
 use Rattle.assign.proofs.visit.lowest.Reads as lowest-reads
-use Rattle.assign.proofs.mask.with.Reads as with-reads
-use Rattle.assign.proofs.rows.choices.Reads as choices-reads
+use Rattle.masks.proofs.with.Reads as with-reads
+use Rattle.masks.proofs.rows.choices.Reads as choices-reads
 use Rattle.assign.proofs.chain.+settle.{statement}
 use Rattle.assign.proofs.chain.+settle.Tie.{close}
 

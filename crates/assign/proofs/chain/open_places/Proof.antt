@@ -4,9 +4,9 @@ use mathlib.Core.Path.{_≡_, sym, subst₂}
 use mathlib.Core.Logic.{⊎-elim}
 use Prim.Native.Nat.{ℕ, _+_, _-_, _≤_}
 use native.Mathlib.Omega.{arith}
-use Rattle.assign.specs.Rows.{bit}
+use Rattle.masks.specs.Rows.{bit}
 use Rattle.assign.specs.Chain.{Opened}
-use Rattle.assign.proofs.Masks.{bit-none}
+use Rattle.masks.proofs.Masks.{bit-none}
 use Rattle.assign.proofs.Chains.{opened-none, opened-free, opened-held}
 use Rattle.assign.proofs.chain.open_places.Statement.{statement}
 use Rattle.assign.proofs.chain.open_places.Tie as tie

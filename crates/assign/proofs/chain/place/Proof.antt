@@ -1,6 +1,6 @@
 -- `place` meets its contract: one call of `settle`, with nobody tried and every place of the piece open. Assumes nothing.
 use borrow.Author.Needs.{needs}
-use Rattle.assign.proofs.Masks.{bit-none}
+use Rattle.masks.proofs.Masks.{bit-none}
 use Rattle.assign.proofs.Chains.{opened-ready, placed}
 use Rattle.assign.proofs.chain.place.Statement.{statement}
 use Rattle.assign.proofs.chain.place.Tie as tie

@@ -4,10 +4,10 @@ use mathlib.Core.Path.{_≡_, ap, _∙_}
 use mathlib.Core.Bool.{true}
 use Prim.Native.Nat.{ℕ, _+_, _-_, _≤_}
 use native.Mathlib.Omega.{arith}
-use Rattle.assign.specs.Rows.{bit, count}
+use Rattle.masks.specs.Rows.{bit, count}
 use Rattle.assign.specs.Saturate.{Dealt}
 use Rattle.assign.specs.Refine.{Rival}
-use Rattle.assign.proofs.Masks.{bit-none}
+use Rattle.masks.proofs.Masks.{bit-none}
 use Rattle.assign.proofs.Chains.{left-falls, flipped-down}
 use Rattle.assign.proofs.Firsts.{Going, going-start, going-fail, going-works, going-done, rival-asks}
 use Rattle.assign.proofs.refine.improve.Statement.{statement}

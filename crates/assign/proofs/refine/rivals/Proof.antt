@@ -6,10 +6,10 @@ use Prim.Native.Nat.{ℕ, _+_, _-_, _<_, _≤_}
 use native.Mathlib.Omega.{arith}
 use lib.ListN.{getD}
 use borrow.Author.Needs.{needs}
-use Rattle.assign.specs.Rows.{bit}
+use Rattle.masks.specs.Rows.{bit}
 use Rattle.assign.specs.Refine.{Rivals}
-use Rattle.assign.proofs.Lemmas.{clash}
-use Rattle.assign.proofs.Masks.{bit-none}
+use Rattle.masks.proofs.Lemmas.{clash}
+use Rattle.masks.proofs.Masks.{bit-none}
 use Rattle.assign.proofs.Firsts.{rivals-none, rivals-skip, rivals-more}
 use Rattle.assign.proofs.refine.rivals.Statement.{statement}
 use Rattle.assign.proofs.refine.rivals.Tie as tie

@@ -4,11 +4,11 @@ use mathlib.Core.Path.{_≡_, refl}
 use Prim.Native.Nat.{_-_, _<_, _≤_}
 use native.Mathlib.Omega.{arith}
 use borrow.Author.Tests.{not-true, not-false}
-use Rattle.assign.specs.Rows.{bit}
+use Rattle.masks.specs.Rows.{bit}
 use Rattle.assign.specs.Chain.{Opened}
 use Rattle.assign.specs.Saturate.{Dealt}
-use Rattle.assign.proofs.Lemmas.{clash, between-to}
-use Rattle.assign.proofs.Masks.{bit-none}
+use Rattle.masks.proofs.Lemmas.{clash, between-to}
+use Rattle.masks.proofs.Masks.{bit-none}
 use Rattle.assign.proofs.Chains.{opened-ready, opened-filled, placed}
 use Rattle.assign.proofs.Deals.{dealt-empty, dealt-more, dealt-short}
 use Rattle.assign.proofs.saturate.saturate.Statement.{statement}

@@ -1,6 +1,6 @@
 -- `flip` meets its contract: `bit-flip` says what an exclusive or with a power of two does. Assumes nothing.
 use borrow.Author.Needs.{needs}
-use Rattle.assign.proofs.Masks.{bit-flip}
+use Rattle.masks.proofs.Masks.{bit-flip}
 use Rattle.assign.proofs.visit.flip.Statement.{statement}
 use Rattle.assign.proofs.visit.flip.Tie as tie
 

@@ -1,7 +1,7 @@
 -- `lowest` meets its contract: the digit above the trailing zeros is set. Assumes nothing.
 use native.Mathlib.Omega.{arith}
 use lib.Count.{trailing-le}
-use Rattle.assign.proofs.Masks.{lowest-bit}
+use Rattle.masks.proofs.Masks.{lowest-bit}
 use Rattle.assign.proofs.visit.lowest.Statement.{statement}
 use Rattle.assign.proofs.visit.lowest.Tie as tie
 

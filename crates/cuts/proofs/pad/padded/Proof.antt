@@ -3,15 +3,15 @@ use mathlib.Core.Path.{_≡_}
 use Prim.Native.Nat.{ℕ, _-_, _≤_}
 use native.Mathlib.Omega.{arith}
 use borrow.Author.Needs.{needs}
-use Rattle.assign.specs.Rows.{bit, between}
+use Rattle.masks.specs.Rows.{bit, between}
 use Rattle.cuts.proofs.Fillings.{PaddedTo, padded-start, padded-step}
 use Rattle.cuts.proofs.pad.padded.Statement.{statement}
 use Rattle.cuts.proofs.pad.padded.Tie as tie
 use Rattle.cuts.proofs.pad.padded.Reads as reads
 use Rattle.cuts.proofs.pad.padded.Lts as lts
-use Rattle.assign.proofs.mask.span.Reads as span-reads
+use Rattle.masks.proofs.span.Reads as span-reads
 use Rattle.cuts.proofs.pad.union.Reads as union-reads
-use Rattle.assign.proofs.rows.choices.Reads as choices-reads
+use Rattle.masks.proofs.rows.choices.Reads as choices-reads
 
 abbrev Inv-loop : tie.InvT-loop
 Inv-loop rows n k more r₀ m₀ r m = (m ≤ k) × ((e : ℕ) → bit more e ≡ between n k e) × PaddedTo rows n k m r

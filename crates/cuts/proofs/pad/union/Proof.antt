@@ -1,5 +1,5 @@
 -- `union` meets its contract. Assumes nothing.
-use Rattle.assign.proofs.Masks.{bit-or}
+use Rattle.masks.proofs.Masks.{bit-or}
 use Rattle.cuts.proofs.pad.union.Statement.{statement}
 use Rattle.cuts.proofs.pad.union.Tie as tie
 use Rattle.cuts.proofs.pad.union.Reads as reads

@@ -1,6 +1,6 @@
 -- `has_place` meets its contract: a shift and a remainder are what `bit` says. Assumes nothing.
 use borrow.Author.Needs.{needs}
-use Rattle.assign.specs.Rows.{bit}
+use Rattle.masks.specs.Rows.{bit}
 use Rattle.passes.proofs.places.has_place.Statement.{statement}
 use Rattle.passes.proofs.places.has_place.Tie as tie
 

@@ -1,6 +1,6 @@
 -- `with_place` meets its contract: `bit-with` says what an or with a power of two does. Assumes nothing.
 use borrow.Author.Needs.{needs}
-use Rattle.assign.proofs.Masks.{bit-with}
+use Rattle.masks.proofs.Masks.{bit-with}
 use Rattle.passes.proofs.places.with_place.Statement.{statement}
 use Rattle.passes.proofs.places.with_place.Tie as tie
 

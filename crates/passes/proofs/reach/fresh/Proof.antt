@@ -7,8 +7,8 @@ use Rattle.passes.proofs.reach.fresh.Statement.{statement}
 use Rattle.passes.proofs.reach.fresh.Tie as tie
 use Rattle.passes.proofs.reach.fresh.Reads as reads
 use Rattle.passes.proofs.reach.fresh.Lts as lts
-use Rattle.assign.proofs.mask.has.Reads as has-reads
-use Rattle.assign.proofs.rows.may_take.Reads as may-take-reads
+use Rattle.masks.proofs.has.Reads as has-reads
+use Rattle.masks.proofs.rows.may_take.Reads as may-take-reads
 
 returns : tie.Need-returns
 returns c = fresh-low (c .if1 .taken)

@@ -13,7 +13,7 @@ use Rattle.passes.proofs.reach.piece_ends.Statement.{statement}
 use Rattle.passes.proofs.reach.piece_ends.Tie as tie
 use Rattle.passes.proofs.reach.piece_ends.Reads as reads
 use Rattle.passes.proofs.reach.piece_ends.Lts as lts
-use Rattle.assign.proofs.mask.with.Reads as with-reads
+use Rattle.masks.proofs.with.Reads as with-reads
 use Rattle.passes.proofs.reach.fresh.Reads as fresh-reads
 use Rattle.passes.proofs.reach.last_end.Reads as last-end-reads
 use Rattle.passes.proofs.reach.mark.Reads as mark-reads
