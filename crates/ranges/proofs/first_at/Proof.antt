@@ -12,7 +12,7 @@ use lib.ListN.{length, getD, take, drop}
 use borrow.Author.Needs.{needs}
 use Rattle.ranges.specs.Shown.{spans}
 use Rattle.ranges.specs.Spans.{join}
-use Rattle.ranges.proofs.Locals.{num, again, again-same}
+use Rattle.words.proofs.SignedLocals.{num, again, again-same}
 use Rattle.ranges.proofs.Steps.{skip-step}
 use Rattle.ranges.proofs.Views.{length-view, view-at}
 use Rattle.ranges.proofs.first_at.Statement.{statement}

@@ -10,7 +10,7 @@ use borrow.Author.Needs.{needs}
 use Rattle.words.specs.Integer.{Word}
 use Rattle.ranges.specs.Shown.{view, spans}
 use Rattle.ranges.specs.Spans.{Span, span, join}
-use Rattle.ranges.proofs.Locals.{again, again-same}
+use Rattle.words.proofs.SignedLocals.{again, again-same}
 use Rattle.ranges.proofs.Moves.{put-up, put-down}
 use Rattle.ranges.proofs.Steps.{swallow-there}
 use Rattle.ranges.proofs.Views.{length-view, view-set}

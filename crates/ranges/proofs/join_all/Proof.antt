@@ -13,7 +13,7 @@ use Rattle.words.specs.Integer.{Word}
 use Rattle.ranges.specs.Shown.{spans}
 use Rattle.ranges.specs.Spans.{Span, span, Ascending, join, joinAll}
 use Rattle.ranges.proofs.Laws.{ascending-join}
-use Rattle.ranges.proofs.Locals.{again-same}
+use Rattle.words.proofs.SignedLocals.{again-same}
 use Rattle.ranges.proofs.Steps.{joinAll-step, joinAll-end, span-ordered}
 use Rattle.ranges.proofs.Views.{view-end, view-at, shows}
 use Rattle.ranges.specs.declared.Ranges.{Ranges}

@@ -2,7 +2,7 @@
 use mathlib.Core.Path.{_≡_, sym, _∙_}
 use mathlib.Core.Bool.{true, false}
 use lib.Signed.{ltZ}
-use Rattle.ranges.proofs.Locals.{again, again-same}
+use Rattle.words.proofs.SignedLocals.{again, again-same}
 use Rattle.ranges.proofs.lesser.Statement.{statement}
 use Rattle.ranges.proofs.lesser.Tie as tie
 

@@ -9,7 +9,7 @@ use lib.ListN.{length, getD, take, drop, set, length-set, drop-of-length-le}
 use borrow.Author.Needs.{needs}
 use Rattle.ranges.specs.Shown.{view, spans}
 use Rattle.ranges.specs.Spans.{span}
-use Rattle.ranges.proofs.Locals.{again, again-same}
+use Rattle.words.proofs.SignedLocals.{again, again-same}
 use Rattle.ranges.proofs.Moves.{up-step}
 use Rattle.ranges.proofs.Views.{length-view, view-get, view-take, view-set}
 use Rattle.ranges.proofs.move_up.Statement.{statement}

@@ -12,7 +12,7 @@ use borrow.Author.Needs.{needs}
 use Rattle.ranges.specs.Shown.{spans}
 use Rattle.ranges.specs.Spans.{Span, span, lesser, larger}
 use Rattle.ranges.specs.Steps.{swallow}
-use Rattle.ranges.proofs.Locals.{num, again, again-same, bits-fit}
+use Rattle.words.proofs.SignedLocals.{num, again, again-same, bits-fit}
 use Rattle.ranges.proofs.Steps.{swallow-end, swallow-stop, swallow-more}
 use Rattle.ranges.proofs.Views.{length-view, view-at}
 use Rattle.ranges.specs.declared.Ranges.{Ranges}

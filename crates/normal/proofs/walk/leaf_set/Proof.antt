@@ -7,7 +7,7 @@ use lib.IntN.{ℤ}
 use lib.ListN.{length, getD}
 use borrow.Author.Needs.{needs}
 use Rattle.ranges.specs.Spans.{span}
-use Rattle.ranges.proofs.Locals.{again, again-same}
+use Rattle.words.proofs.SignedLocals.{again, again-same}
 use Rattle.words.specs.Integer.{intAt}
 use Rattle.normal.proofs.Walks.{leaf-fits, single-fits, range-fits, single-set, range-set, any-set}
 use Rattle.normal.proofs.walk.leaf_set.Statement.{statement}
