@@ -1,12 +1,13 @@
 // The integers that an element template matches, from its bytes.
-ghost use mathlib.Core.Path.{_≡_};
-ghost use Rattle.ranges.specs.Shown.{spans};
+ghost use mathlib.Core.List.{[], _∷_};
+ghost use Rattle.ranges.specs.Spans.{span};
 ghost use Rattle.normal.specs.Contract.{LeafHere, LeafSet, Here, SetHere, Members, SetAny};
 use ranges::Ranges;
+use ranges::append;
 use ranges::empty;
 use ranges::gaps;
-use ranges::join_all;
 use ranges::one;
+use ranges::swept;
 use words::int_at;
 
 const SINGLE: u8 = 0x01;
@@ -27,42 +28,72 @@ pub struct Found {
     pub next: usize,
 }
 
-// The integers that the leaf at `at` matches.
-fn leaf_set(t: &[u8], at: usize) -> Found
+// The bounds of a leaf, both included, and the place after it.
+struct Leaf {
+    lower: i32,
+    upper: i32,
+    next: usize,
+}
+
+// The integers that the leaf at `at` matches: those between its bounds.
+fn leaf_at(t: &[u8], at: usize) -> Leaf
     requires { ⌜ LeafHere (now t) at ⌝ }
-    ensures { λ r. ⌜ (r .set .n ≡ 1) × LeafSet (now (t .entry)) at (spans (r .set)) (r .next) ⌝ }
+    ensures { λ r. ⌜ LeafSet (now (t .entry)) at (span (r .lower) (r .upper) ∷ []) (r .next) ⌝ }
 {
     let kind = t[at];
     if kind == SINGLE {
         let x = int_at(t, at + 1);
-        let set = one(x, x);
-        return Found { set, next: at + 5 };
+        return Leaf {
+            lower: x,
+            upper: x,
+            next: at + 5,
+        };
     }
     if kind == RANGE {
         let lower = int_at(t, at + 1);
         let upper = int_at(t, at + 5);
-        let set = one(lower, upper);
-        return Found { set, next: at + 9 };
+        return Leaf {
+            lower,
+            upper,
+            next: at + 9,
+        };
     }
-    let set = one(LEAST, MOST);
-    Found { set, next: at + 1 }
+    Leaf {
+        lower: LEAST,
+        upper: MOST,
+        next: at + 1,
+    }
 }
 
-// The integers that at least one of the n element templates at `at` matches; `left` depths are left.
+// The integers that at least one of the n element templates at `at` matches; `left` depths are left. The ranges of all of them are
+// gathered first, and swept once.
 fn any_of(t: &[u8], at: usize, n: usize, left: usize) -> Found
     requires { ⌜ Members (now t) at n left ⌝ }
     ensures { λ r. ⌜ SetAny (now (t .entry)) at n left (r .set) (r .next) ⌝ }
 {
-    let mut set = empty();
+    let mut gathered = empty();
     let mut p = at;
     let mut more = n;
     while 0 < more {
-        let w = set_of(t, p, left);
-        let s = w.set;
-        set = join_all(set, s);
-        p = w.next;
+        let kind = t[p];
+        if kind < LIST {
+            let l = leaf_at(t, p);
+            let a = l.lower;
+            let b = l.upper;
+            let w = gathered.n;
+            gathered.lo[w] = a;
+            gathered.hi[w] = b;
+            gathered.n = w + 1;
+            p = l.next;
+        } else {
+            let w = set_of(t, p, left);
+            let s = w.set;
+            gathered = append(gathered, s);
+            p = w.next;
+        }
         more -= 1;
     }
+    let set = swept(gathered);
     Found { set, next: p }
 }
 
@@ -73,7 +104,9 @@ pub fn set_of(t: &[u8], at: usize, left: usize) -> Found
 {
     let kind = t[at];
     if kind == LIST {
-        return any_of(t, at + 2, t[at + 1] as usize, left - 1);
+        let w = any_of(t, at + 2, t[at + 1] as usize, left - 1);
+        let set = w.set;
+        return Found { set, next: w.next };
     }
     if kind == COMPLEMENT {
         let w = any_of(t, at + 2, t[at + 1] as usize, left - 1);
@@ -81,5 +114,7 @@ pub fn set_of(t: &[u8], at: usize, left: usize) -> Found
         let set = gaps(s);
         return Found { set, next: w.next };
     }
-    leaf_set(t, at)
+    let l = leaf_at(t, at);
+    let set = one(l.lower, l.upper);
+    Found { set, next: l.next }
 }

@@ -1,17 +1,16 @@
--- `normal::walk::leaf_set` meets its contract: by the leaf's kind. Assumes nothing.
-use mathlib.Core.Path.{_≡_, ap, ap₂, _∙_}
+-- `normal::walk::leaf_at` meets its contract: by the leaf's kind. Assumes nothing.
+use mathlib.Core.Path.{_≡_, refl, ap, ap₂, _∙_}
 use mathlib.Core.List.{List, [], _∷_}
 use Prim.Native.Nat.{ℕ, _+_, _≤_}
 use native.Mathlib.Omega.{arith}
 use lib.IntN.{ℤ}
 use lib.ListN.{length, getD}
-use borrow.Author.Needs.{needs}
 use Rattle.ranges.specs.Spans.{span}
 use Rattle.words.proofs.SignedLocals.{again, again-same}
 use Rattle.words.specs.Integer.{intAt}
 use Rattle.normal.proofs.Walks.{leaf-fits, single-fits, range-fits, single-set, range-set, any-set}
-use Rattle.normal.proofs.walk.leaf_set.Statement.{statement}
-use Rattle.normal.proofs.walk.leaf_set.Tie as tie
+use Rattle.normal.proofs.walk.leaf_at.Statement.{statement}
+use Rattle.normal.proofs.walk.leaf_at.Tie as tie
 
 -- at the entry: how far the leaf reaches, by its kind
 module _ (s : tie.Start) where
@@ -39,18 +38,15 @@ add-int-at c = omega (arith, a-single (c .before .before .before) (c .if1 .taken
 int-at-requires : tie.Need-int-at-requires
 int-at-requires c κs = omega (arith, a-single (c .before .before .before) (c .if1 .taken))
 
-one-requires : tie.Need-one-requires
-one-requires c κs = search needs
-
-add-t13 : tie.Need-add-t13
-add-t13 c = omega (arith, a-single (c .before .before .before .before .before) (c .before .before .if1 .taken))
+add-t10 : tie.Need-add-t10
+add-t10 c = omega (arith, a-single (c .before .before .before .before) (c .before .if1 .taken))
 
 returns : tie.Need-returns
 returns c =
-    let s = c .before .before .before .before .before in
-    let x = c .before .int-at in
+    let s = c .before .before .before .before in
+    let x = c .int-at in
     let e : again (x .result) ≡ intAt (bytes s) (at s + 1) = again-same (x .result) (x .ok) ∙ x .ensures in
-    (c .one .ensures .count, single-set (bytes s) (at s) (s .pre) _ (c .before .before .if1 .taken) (c .one .ensures .ranges ∙ ap (λ (z : ℤ). span z z ∷ []) e))
+    single-set (bytes s) (at s) (s .pre) _ (c .before .if1 .taken) (ap (λ (z : ℤ). span z z ∷ []) e)
 
 add-int-at-2 : tie.Need-add-int-at-2
 add-int-at-2 c = omega (arith, a-range (c .before .before .before .before) (c .if2 .taken))
@@ -64,49 +60,40 @@ add-int-at-3 c = omega (arith, a-range (c .before .before .before .before .befor
 int-at-requires-3 : tie.Need-int-at-requires-3
 int-at-requires-3 c κs = omega (arith, a-range (c .before .before .before .before .before) (c .before .if2 .taken))
 
-one-requires-2 : tie.Need-one-requires-2
-one-requires-2 c κs = search needs
-
-add-t14 : tie.Need-add-t14
-add-t14 c = omega (arith, a-range (c .before .before .before .before .before .before .before) (c .before .before .before .if2 .taken))
+add-t11 : tie.Need-add-t11
+add-t11 c = omega (arith, a-range (c .before .before .before .before .before .before) (c .before .before .if2 .taken))
 
 returns-2 : tie.Need-returns-2
 returns-2 c =
-    let s = c .before .before .before .before .before .before .before in
-    let x = c .before .before .int-at2 in
-    let y = c .before .int-at3 in
+    let s = c .before .before .before .before .before .before in
+    let x = c .before .int-at2 in
+    let y = c .int-at3 in
     let e : again (x .result) ≡ intAt (bytes s) (at s + 1) = again-same (x .result) (x .ok) ∙ x .ensures in
     let f : again (y .result) ≡ intAt (bytes s) (at s + 5) = again-same (y .result) (y .ok) ∙ y .ensures in
-    (c .one2 .ensures .count, range-set (bytes s) (at s) (s .pre) _ (c .before .before .before .if2 .taken) (c .one2 .ensures .ranges ∙ ap₂ (λ (a b : ℤ). span a b ∷ []) e f))
+    range-set (bytes s) (at s) (s .pre) _ (c .before .before .if2 .taken) (ap₂ (λ (a b : ℤ). span a b ∷ []) e f)
 
-one-requires-3 : tie.Need-one-requires-3
-one-requires-3 c κs = search needs
-
-add-t15 : tie.Need-add-t15
-add-t15 c = omega (arith, fits (c .before .before .before .before .before))
+add-t12 : tie.Need-add-t12
+add-t12 c = omega (arith, fits (c .before .before .before .before))
 
 returns-3 : tie.Need-returns-3
 returns-3 c =
-    let s = c .before .before .before .before .before in
-    (c .one3 .ensures .count, any-set (bytes s) (at s) (s .pre) _ (c .before .before .if1 .left) (c .before .if2 .left) (c .one3 .ensures .ranges))
+    let s = c .before .before .before .before in
+    any-set (bytes s) (at s) (s .pre) _ (c .before .if1 .left) (c .if2 .left) refl
 
-pub leaf-set-spec : {M : Type 1} → statement M
-leaf-set-spec =
+pub leaf-at-spec : {M : Type 1} → statement M
+leaf-at-spec =
     tie.close
     (tie.spec
     shared-slice-read-kind
     add-int-at
     int-at-requires
-    one-requires
-    add-t13
+    add-t10
     returns
     add-int-at-2
     int-at-requires-2
     add-int-at-3
     int-at-requires-3
-    one-requires-2
-    add-t14
+    add-t11
     returns-2
-    one-requires-3
-    add-t15
+    add-t12
     returns-3)
