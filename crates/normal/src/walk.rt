@@ -104,6 +104,7 @@ pub fn set_of(t: &[u8], at: usize, left: usize) -> Found
 {
     let kind = t[at];
     if kind == LIST {
+        // Taken apart and made anew: handed on whole, it costs a leaf by itself a copy too.
         let w = any_of(t, at + 2, t[at + 1] as usize, left - 1);
         let set = w.set;
         return Found { set, next: w.next };
