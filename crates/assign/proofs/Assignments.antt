@@ -3,7 +3,7 @@
 -- assigns-rows: only what members of the block may take of the piece matters.
 use mathlib.Core.Path.{_≡_, refl, subst}
 use mathlib.Core.Logic.{_⊎_, ⊎-elim}
-use mathlib.Core.Bool.{true}
+use mathlib.Core.Bool.{Bool, true}
 use mathlib.Core.List.{List, [], _∷_}
 use Prim.Native.Nat.{ℕ, zero, suc, _+_, _-_, _≤_, _<_, suc-le-suc}
 use native.Mathlib.Nat.{not-suc-le-zero, le-of-suc-le-suc}
@@ -11,24 +11,24 @@ use native.Mathlib.Omega.{arith}
 use lib.Dec.{eqb}
 use lib.ListN.{length, getD}
 use borrow.Author.Tests.{eqb-true, eq-eqb}
-use Rattle.masks.specs.Rows.{may, between, cnt}
+use Rattle.masks.specs.Rows.{between, cnt}
 use Rattle.assign.specs.Assignment.{takes, allRight, allOnce, assigns, Assigns}
 use Rattle.masks.proofs.Lemmas.{same?, and-left, and-right, both, between-in}
 use Rattle.assign.proofs.Groups.{takes-inv, takes-spare, takes-member}
 
-right-test : (rows : List ℕ) (first k e : ℕ) (a : List ℕ) → ((i : ℕ) → i < length a → takes rows first k (e + i) (getD a i 0) ≡ true) → allRight rows first k e a ≡ true
+right-test : (may : ℕ → ℕ → Bool) (first k e : ℕ) (a : List ℕ) → ((i : ℕ) → i < length a → takes may first k (e + i) (getD a i 0) ≡ true) → allRight may first k e a ≡ true
 unfolding allRight
-right-test rows first k e [] h = refl
-right-test rows first k e (x ∷ xs) h = both (takes rows first k e x) (allRight rows first k (suc e) xs)
-    (subst (λ (j : ℕ). takes rows first k j x ≡ true) (omega arith) (h 0 (omega arith)))
-    (right-test rows first k (suc e) xs (λ i l. subst (λ (j : ℕ). takes rows first k j (getD xs i 0) ≡ true) (omega arith) (h (suc i) (suc-le-suc l))))
+right-test may first k e [] h = refl
+right-test may first k e (x ∷ xs) h = both (takes may first k e x) (allRight may first k (suc e) xs)
+    (subst (λ (j : ℕ). takes may first k j x ≡ true) (omega arith) (h 0 (omega arith)))
+    (right-test may first k (suc e) xs (λ i l. subst (λ (j : ℕ). takes may first k j (getD xs i 0) ≡ true) (omega arith) (h (suc i) (suc-le-suc l))))
 
-test-right : (rows : List ℕ) (first k e : ℕ) (a : List ℕ) → allRight rows first k e a ≡ true → (i : ℕ) → i < length a → takes rows first k (e + i) (getD a i 0) ≡ true
+test-right : (may : ℕ → ℕ → Bool) (first k e : ℕ) (a : List ℕ) → allRight may first k e a ≡ true → (i : ℕ) → i < length a → takes may first k (e + i) (getD a i 0) ≡ true
 unfolding allRight
-test-right rows first k e [] h i l = absurd (not-suc-le-zero l)
-test-right rows first k e (x ∷ xs) h zero l = subst (λ (j : ℕ). takes rows first k j x ≡ true) (omega arith) (and-left (takes rows first k e x) (allRight rows first k (suc e) xs) h)
-test-right rows first k e (x ∷ xs) h (suc i) l = subst (λ (j : ℕ). takes rows first k j (getD xs i 0) ≡ true) (omega arith)
-    (test-right rows first k (suc e) xs (and-right (takes rows first k e x) (allRight rows first k (suc e) xs) h) i (le-of-suc-le-suc l))
+test-right may first k e [] h i l = absurd (not-suc-le-zero l)
+test-right may first k e (x ∷ xs) h zero l = subst (λ (j : ℕ). takes may first k j x ≡ true) (omega arith) (and-left (takes may first k e x) (allRight may first k (suc e) xs) h)
+test-right may first k e (x ∷ xs) h (suc i) l = subst (λ (j : ℕ). takes may first k j (getD xs i 0) ≡ true) (omega arith)
+    (test-right may first k (suc e) xs (and-right (takes may first k e x) (allRight may first k (suc e) xs) h) i (le-of-suc-le-suc l))
 
 pub once-test : (first k : ℕ) (a : List ℕ) → ((m : ℕ) → first ≤ m → m < first + k → cnt m a ≡ 1) → allOnce first k a ≡ true
 unfolding allOnce
@@ -44,30 +44,30 @@ test-once first (suc k) a h m f t = ⊎-elim
     (λ (q : m ≡ first + k → ⊥). test-once first k a (and-right (eqb (cnt (first + k) a) 1) (allOnce first k a) h) m f (omega arith))
     (same? m (first + k))
 
-module _ {rows : List ℕ} {first k from to : ℕ} {a : List ℕ} where
-  pub assigns-test : Assigns rows first k from to a → assigns rows first k from a ≡ true
+module _ {may : ℕ → ℕ → Bool} {first k from to : ℕ} {a : List ℕ} where
+  pub assigns-test : Assigns may first k from to a → assigns may first k from a ≡ true
   unfolding assigns
-  assigns-test h = both (allRight rows first k from a) (allOnce first k a) (right-test rows first k from a (h .right)) (once-test first k a (h .once))
+  assigns-test h = both (allRight may first k from a) (allOnce first k a) (right-test may first k from a (h .right)) (once-test first k a (h .once))
 
-  pub test-assigns : length a ≡ to - from → assigns rows first k from a ≡ true → Assigns rows first k from to a
+  pub test-assigns : length a ≡ to - from → assigns may first k from a ≡ true → Assigns may first k from to a
   unfolding assigns
   test-assigns n h = record {
     size = n;
-    right = test-right rows first k from a (and-left (allRight rows first k from a) (allOnce first k a) h);
-    once = test-once first k a (and-right (allRight rows first k from a) (allOnce first k a) h);
+    right = test-right may first k from a (and-left (allRight may first k from a) (allOnce first k a) h);
+    once = test-once first k a (and-right (allRight may first k from a) (allOnce first k a) h);
   }
 
-pub assigns-rows : {rows rows' : List ℕ} {first k from to : ℕ} {a : List ℕ}
-    → ((m e : ℕ) → between first (first + k) m ≡ true → between from to e ≡ true → may rows m e ≡ true → may rows' m e ≡ true)
-    → Assigns rows first k from to a → Assigns rows' first k from to a
-assigns-rows {rows} {rows'} {first} {k} {from} {to} {a} same h =
+pub assigns-rows : {may may' : ℕ → ℕ → Bool} {first k from to : ℕ} {a : List ℕ}
+    → ((m e : ℕ) → between first (first + k) m ≡ true → between from to e ≡ true → may m e ≡ true → may' m e ≡ true)
+    → Assigns may first k from to a → Assigns may' first k from to a
+assigns-rows {may} {may'} {first} {k} {from} {to} {a} same h =
     let size = h .size in
     record {
       size = size;
       right = λ i l. ⊎-elim
-          (λ (q : getD a i 0 ≡ 255). takes-spare rows' first k (from + i) (getD a i 0) q)
-          (λ (q : (between first (first + k) (getD a i 0) ≡ true) × (may rows (getD a i 0) (from + i) ≡ true)).
-          takes-member rows' first k (from + i) (getD a i 0) (q .0) (same (getD a i 0) (from + i) (q .0) (between-in from to (from + i) (omega arith) (omega arith)) (q .1)))
-          (takes-inv rows first k (from + i) (getD a i 0) (h .right i l));
+          (λ (q : getD a i 0 ≡ 255). takes-spare may' first k (from + i) (getD a i 0) q)
+          (λ (q : (between first (first + k) (getD a i 0) ≡ true) × (may (getD a i 0) (from + i) ≡ true)).
+          takes-member may' first k (from + i) (getD a i 0) (q .0) (same (getD a i 0) (from + i) (q .0) (between-in from to (from + i) (omega arith) (omega arith)) (q .1)))
+          (takes-inv may first k (from + i) (getD a i 0) (h .right i l));
       once = h .once;
     }

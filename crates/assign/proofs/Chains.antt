@@ -9,7 +9,7 @@ use native.Mathlib.Omega.{arith}
 use lib.ListN.{length, getD, set, length-set}
 use lib.Seq.{getD-set-same, getD-set-other}
 use borrow.Author.Tests.{not-true}
-use Rattle.masks.specs.Rows.{may, between, cnt, count, Plus}
+use Rattle.masks.specs.Rows.{between, cnt, count, Plus}
 use Rattle.masks.specs.Visit.{Flipped}
 use Rattle.assign.specs.Chain.{Opened, Ready, reach, within, Owned, Served, Gave, Filled, Stuck, Settled, Placed}
 use Rattle.masks.proofs.Lemmas.{same?, below?, holds?, clash, not-so, between-in, between-from, between-to, and-left, and-right, both, one-of, or-left, or-right, hit, miss}
@@ -40,27 +40,27 @@ left-falls {G} {K} {L} e f here low down = count-less {P = L} {S = G}
     e (not-so (L e) (λ q. clash (down e q) (flipped-out f here))) here 32 low
 
 -- ---- what may be reached, by more places
-reach-row : (rows : List ℕ) (F H : ℕ → Bool) (v e : ℕ) → reach rows F H v e ≡ true → may rows v e ≡ true
+reach-row : (may : ℕ → ℕ → Bool) (F H : ℕ → Bool) (v e : ℕ) → reach may F H v e ≡ true → may v e ≡ true
 unfolding reach
-reach-row rows F H v e o = and-left (may rows v e) (F e || H e) o
+reach-row may F H v e o = and-left (may v e) (F e || H e) o
 
-reach-open : (rows : List ℕ) (F H : ℕ → Bool) (v e : ℕ) → reach rows F H v e ≡ true → (F e ≡ true) ⊎ (H e ≡ true)
+reach-open : (may : ℕ → ℕ → Bool) (F H : ℕ → Bool) (v e : ℕ) → reach may F H v e ≡ true → (F e ≡ true) ⊎ (H e ≡ true)
 unfolding reach
-reach-open rows F H v e o = one-of (F e) (H e) (and-right (may rows v e) (F e || H e) o)
+reach-open may F H v e o = one-of (F e) (H e) (and-right (may v e) (F e || H e) o)
 
-pub reach-free : (rows : List ℕ) (F H : ℕ → Bool) (v e : ℕ) → may rows v e ≡ true → F e ≡ true → reach rows F H v e ≡ true
+pub reach-free : (may : ℕ → ℕ → Bool) (F H : ℕ → Bool) (v e : ℕ) → may v e ≡ true → F e ≡ true → reach may F H v e ≡ true
 unfolding reach
-reach-free rows F H v e r f = both (may rows v e) (F e || H e) r (or-left (F e) (H e) f)
+reach-free may F H v e r f = both (may v e) (F e || H e) r (or-left (F e) (H e) f)
 
-pub reach-held : (rows : List ℕ) (F H : ℕ → Bool) (v e : ℕ) → may rows v e ≡ true → H e ≡ true → reach rows F H v e ≡ true
+pub reach-held : (may : ℕ → ℕ → Bool) (F H : ℕ → Bool) (v e : ℕ) → may v e ≡ true → H e ≡ true → reach may F H v e ≡ true
 unfolding reach
-reach-held rows F H v e r f = both (may rows v e) (F e || H e) r (or-right (F e) (H e) f)
+reach-held may F H v e r f = both (may v e) (F e || H e) r (or-right (F e) (H e) f)
 
-reach-wider : (rows : List ℕ) (F G H : ℕ → Bool) → ((e : ℕ) → G e ≡ true → H e ≡ true) → (v e : ℕ) → reach rows F G v e ≡ true → reach rows F H v e ≡ true
-reach-wider rows F G H up v e o = ⊎-elim
-    (λ f. reach-free rows F H v e (reach-row rows F G v e o) f)
-    (λ f. reach-held rows F H v e (reach-row rows F G v e o) (up e f))
-    (reach-open rows F G v e o)
+reach-wider : (may : ℕ → ℕ → Bool) (F G H : ℕ → Bool) → ((e : ℕ) → G e ≡ true → H e ≡ true) → (v e : ℕ) → reach may F G v e ≡ true → reach may F H v e ≡ true
+reach-wider may F G H up v e o = ⊎-elim
+    (λ f. reach-free may F H v e (reach-row may F G v e o) f)
+    (λ f. reach-held may F H v e (reach-row may F G v e o) (up e f))
+    (reach-open may F G v e o)
 
 -- a list of more is allowed
 pub served-wider : {ok ko : ℕ → ℕ → Bool} {w x : List ℕ} {m : ℕ} → ((v e : ℕ) → ok v e ≡ true → ko v e ≡ true) → Served ok w m x → Served ko w m x
@@ -76,17 +76,17 @@ owned-wider : {S R : ℕ → Bool} {w : List ℕ} → ((v : ℕ) → S v ≡ tru
 owned-wider up k o = record { low = o .low; seen = up _ (o .seen) }
 
 -- ---- the loop: S are the members tried so far, G the held places that are not tried yet; `others` is of members other than m
-pub record Walk (rows : List ℕ) (F H P S G : ℕ → Bool) (w : List ℕ) (m : ℕ) : Type 0 where
+pub record Walk (may : ℕ → ℕ → Bool) (F H P S G : ℕ → Bool) (w : List ℕ) (m : ℕ) : Type 0 where
   pub grew : (v : ℕ) → P v ≡ true → S v ≡ true
   pub self : S m ≡ true
   pub holders : (v : ℕ) → S v ≡ true → P v ≡ false → (v ≡ m) ⊎ ((v < 32) × (1 ≤ cnt v w))
-  pub others : (v : ℕ) → S v ≡ true → P v ≡ false → (v ≡ m → ⊥) → (e : ℕ) → e < 32 → reach rows F H v e ≡ true → Owned S w e
+  pub others : (v : ℕ) → S v ≡ true → P v ≡ false → (v ≡ m → ⊥) → (e : ℕ) → e < 32 → reach may F H v e ≡ true → Owned S w e
   pub fell : (e : ℕ) → G e ≡ true → H e ≡ true
   pub tried : (e : ℕ) → e < 32 → H e ≡ true → G e ≡ false → Owned S w e
 
-module _ {rows : List ℕ} {F H P S : ℕ → Bool} {w : List ℕ} {m : ℕ} where
+module _ {may : ℕ → ℕ → Bool} {F H P S : ℕ → Bool} {w : List ℕ} {m : ℕ} where
   -- the loop begins
-  pub begin : Plus P m S → Walk rows F H P S H w m
+  pub begin : Plus P m S → Walk may F H P S H w m
   begin h = record {
     grew = λ v p. ⊎-elim (λ (q : v ≡ m). rw q (h .self)) (λ (n : v ≡ m → ⊥). h .other v n ∙ p) (same? v m);
     self = h .self;
@@ -97,7 +97,7 @@ module _ {rows : List ℕ} {F H P S : ℕ → Bool} {w : List ℕ} {m : ℕ} whe
   }
 
   -- a turn at e, whose owner was tried before
-  pub turn-seen : {G K : ℕ → Bool} (e : ℕ) → Walk rows F H P S G w m → Flipped G e K → G e ≡ true → getD w e 0 < 32 → S (getD w e 0) ≡ true → Walk rows F H P S K w m
+  pub turn-seen : {G K : ℕ → Bool} (e : ℕ) → Walk may F H P S G w m → Flipped G e K → G e ≡ true → getD w e 0 < 32 → S (getD w e 0) ≡ true → Walk may F H P S K w m
   turn-seen {G} {K} e h f here low seen = record {
     grew = h .grew;
     self = h .self;
@@ -111,8 +111,8 @@ module _ {rows : List ℕ} {F H P S : ℕ → Bool} {w : List ℕ} {m : ℕ} whe
   }
 
   -- a turn at e, whose owner cannot be moved
-  pub turn-stuck : {G K R L : ℕ → Bool} (e : ℕ) → e < length w → Walk rows F H P S G w m → Flipped G e K → G e ≡ true → getD w e 0 < 32
-      → Stuck (reach rows F K) S R K L w (getD w e 0) → Walk rows F H P R L w m
+  pub turn-stuck : {G K R L : ℕ → Bool} (e : ℕ) → e < length w → Walk may F H P S G w m → Flipped G e K → G e ≡ true → getD w e 0 < 32
+      → Stuck (reach may F K) S R K L w (getD w e 0) → Walk may F H P R L w m
   turn-stuck {G} {K} {R} {L} e fits h f here low k =
       let looked : (j : ℕ) → j < 32 → H j ≡ true → L j ≡ false → Owned R w j = λ j l p q. ⊎-elim
       (λ (g : K j ≡ true). k .tried j l g q)
@@ -131,32 +131,32 @@ module _ {rows : List ℕ} {F H P S : ℕ → Bool} {w : List ℕ} {m : ℕ} whe
         others = λ v r p n j l o. ⊎-elim
             (λ (s : S v ≡ true). owned-wider (k .grew) j (h .others v s p n j l o))
             (λ (s : S v ≡ false). ⊎-elim
-            (λ (t : F j ≡ true). k .closed v r s j l (reach-free rows F K v j (reach-row rows F H v j o) t))
+            (λ (t : F j ≡ true). k .closed v r s j l (reach-free may F K v j (reach-row may F H v j o) t))
             (λ (t : H j ≡ true). ⊎-elim
-            (λ (g : K j ≡ true). k .closed v r s j l (reach-held rows F K v j (reach-row rows F H v j o) g))
+            (λ (g : K j ≡ true). k .closed v r s j l (reach-held may F K v j (reach-row may F H v j o) g))
             (λ (g : K j ≡ false). looked j l t (not-so (L j) (λ z. clash (k .fell j z) g)))
             (holds? (K j)))
-            (reach-open rows F H v j o))
+            (reach-open may F H v j o))
             (holds? (S v));
         fell = λ j t. h .fell j (flipped-down f here j (k .fell j t));
         tried = looked;
       }
 
   -- the loop ends: m may take no spare place, and no held place that was not tried
-  pub finish : {G : ℕ → Bool} → ((e : ℕ) → may rows m e ≡ true → F e ≡ true → ⊥) → ((e : ℕ) → may rows m e ≡ true → G e ≡ true → ⊥)
-      → Walk rows F H P S G w m → Stuck (reach rows F H) P S H G w m
+  pub finish : {G : ℕ → Bool} → ((e : ℕ) → may m e ≡ true → F e ≡ true → ⊥) → ((e : ℕ) → may m e ≡ true → G e ≡ true → ⊥)
+      → Walk may F H P S G w m → Stuck (reach may F H) P S H G w m
   finish {G} nofree noheld h = record {
     grew = h .grew;
     self = h .self;
     holders = h .holders;
     closed = λ v s p e l o. ⊎-elim
         (λ (q : v ≡ m).
-        let o' : reach rows F H m e ≡ true = rw q at o in
-        let r = reach-row rows F H m e o' in
+        let o' : reach may F H m e ≡ true = rw q at o in
+        let r = reach-row may F H m e o' in
         ⊎-elim
         (λ (t : F e ≡ true). absurd (nofree e r t))
         (λ (t : H e ≡ true). h .tried e l t (not-so (G e) (noheld e r)))
-        (reach-open rows F H m e o'))
+        (reach-open may F H m e o'))
         (λ (n : v ≡ m → ⊥). h .others v s p n e l o)
         (same? v m);
     fell = h .fell;
@@ -242,13 +242,13 @@ give-chain {S} {w} {x} {m} e size member mine within grew self new g =
     }
 
 -- the same in the loop, where fewer places were left for the call
-pub turn-gave : {rows : List ℕ} {F H P S G K : ℕ → Bool} {w x : List ℕ} {m : ℕ} (e : ℕ) → length w ≡ 32 → m < 32 → may rows m e ≡ true → e < 32
-    → Walk rows F H P S G w m → Flipped G e K → G e ≡ true → S (getD w e 0) ≡ false → Gave (reach rows F K) S w (getD w e 0) x
-    → Gave (reach rows F H) P w m (set x e m)
-turn-gave {rows} {F} {H} {P} {S} {G} {K} {w} {x} {m} e size member row low h f here new g =
+pub turn-gave : {may : ℕ → ℕ → Bool} {F H P S G K : ℕ → Bool} {w x : List ℕ} {m : ℕ} (e : ℕ) → length w ≡ 32 → m < 32 → may m e ≡ true → e < 32
+    → Walk may F H P S G w m → Flipped G e K → G e ≡ true → S (getD w e 0) ≡ false → Gave (reach may F K) S w (getD w e 0) x
+    → Gave (reach may F H) P w m (set x e m)
+turn-gave {may} {F} {H} {P} {S} {G} {K} {w} {x} {m} e size member row low h f here new g =
     let down : (j : ℕ) → K j ≡ true → H j ≡ true = λ j t. h .fell j (flipped-down f here j t) in
-    give-chain e size member (reach-held rows F H m e row (h .fell e here)) low (h .grew) (h .self) new
-    (record { served = served-wider (reach-wider rows F K H down) (g .served); kept = g .kept; own = g .own })
+    give-chain e size member (reach-held may F H m e row (h .fell e here)) low (h .grew) (h .self) new
+    (record { served = served-wider (reach-wider may F K H down) (g .served); kept = g .kept; own = g .own })
 
 -- ---- of the spare places a chain takes one
 pub filled-spare : {F : ℕ → Bool} {w : List ℕ} {m : ℕ} (e : ℕ) → length w ≡ 32 → m < 32 → e < 32 → F e ≡ true → Filled F w (set w e m) e
@@ -268,10 +268,10 @@ filled-chain {F} {w} {x} {t} e m free held f =
     }
 
 -- what `settle` gives where a chain was found
-pub settled-found : {rows : List ℕ} {F H P S G : ℕ → Bool} {w x y : List ℕ} {m s t : ℕ} {found : Bool} → (found ≡ true) × (x ≡ y) × (s ≡ t)
-    → Gave (reach rows F H) P w m y → Filled F w y t → Settled rows F H P w m found s S G x
-settled-found {rows} {F} {H} {P} {S} {G} {w} {x} {y} {m} {s} {t} (f, q, r) g h = record {
-  gave = λ _. subst (λ (v : List ℕ). Gave (reach rows F H) P w m v) (sym q) g;
+pub settled-found : {may : ℕ → ℕ → Bool} {F H P S G : ℕ → Bool} {w x y : List ℕ} {m s t : ℕ} {found : Bool} → (found ≡ true) × (x ≡ y) × (s ≡ t)
+    → Gave (reach may F H) P w m y → Filled F w y t → Settled may F H P w m found s S G x
+settled-found {may} {F} {H} {P} {S} {G} {w} {x} {y} {m} {s} {t} (f, q, r) g h = record {
+  gave = λ _. subst (λ (v : List ℕ). Gave (reach may F H) P w m v) (sym q) g;
   filled = λ _. subst₂ (λ (v : List ℕ) (i : ℕ). Filled F w v i) (sym q) (sym r) h;
   stuck = λ z. absurd (clash f z);
   same = λ z. absurd (clash f z);
@@ -347,24 +347,24 @@ pub opened-ready : {w : List ℕ} {from to m : ℕ} {F H P : ℕ → Bool} → m
 opened-ready member fresh o = record { member = member; fresh = fresh; free = λ e f. o .free e f .1; held = λ e f. o .held e f .1 }
 
 -- ---- one call of `settle`, with nobody tried and the places of a piece
-pub within-reach : (rows : List ℕ) (from to : ℕ) (F H : ℕ → Bool) (v e : ℕ) → (between from to e ≡ true → (F e || H e) ≡ true) → within rows from to v e ≡ true → reach rows F H v e ≡ true
+pub within-reach : (may : ℕ → ℕ → Bool) (from to : ℕ) (F H : ℕ → Bool) (v e : ℕ) → (between from to e ≡ true → (F e || H e) ≡ true) → within may from to v e ≡ true → reach may F H v e ≡ true
 unfolding within reach
-within-reach rows from to F H v e all o = both (may rows v e) (F e || H e) (and-left (may rows v e) (between from to e) o) (all (and-right (may rows v e) (between from to e) o))
+within-reach may from to F H v e all o = both (may v e) (F e || H e) (and-left (may v e) (between from to e) o) (all (and-right (may v e) (between from to e) o))
 
-reach-within : (rows : List ℕ) (from to : ℕ) (F H : ℕ → Bool) (v e : ℕ) → (F e ≡ true → between from to e ≡ true) → (H e ≡ true → between from to e ≡ true)
-    → reach rows F H v e ≡ true → within rows from to v e ≡ true
+reach-within : (may : ℕ → ℕ → Bool) (from to : ℕ) (F H : ℕ → Bool) (v e : ℕ) → (F e ≡ true → between from to e ≡ true) → (H e ≡ true → between from to e ≡ true)
+    → reach may F H v e ≡ true → within may from to v e ≡ true
 unfolding within
-reach-within rows from to F H v e free held o = both (may rows v e) (between from to e) (reach-row rows F H v e o) (⊎-elim free held (reach-open rows F H v e o))
+reach-within may from to F H v e free held o = both (may v e) (between from to e) (reach-row may F H v e o) (⊎-elim free held (reach-open may F H v e o))
 
-pub placed : {rows : List ℕ} {from to : ℕ} {F H P S G : ℕ → Bool} {w x : List ℕ} {m t : ℕ} {found : Bool} → ((v : ℕ) → P v ≡ false) → Opened w from to F H
-    → Settled rows F H P w m found t S G x → Placed (within rows from to) w m found x
-placed {rows} {from} {to} {F} {H} {P} {S} {G} {w} {x} {m} new h r = record {
-  served = λ q. served-wider (λ v e. reach-within rows from to F H v e (λ f. h .free e f .0) (λ f. h .held e f .0)) (r .gave q .served);
+pub placed : {may : ℕ → ℕ → Bool} {from to : ℕ} {F H P S G : ℕ → Bool} {w x : List ℕ} {m t : ℕ} {found : Bool} → ((v : ℕ) → P v ≡ false) → Opened w from to F H
+    → Settled may F H P w m found t S G x → Placed (within may from to) w m found x
+placed {may} {from} {to} {F} {H} {P} {S} {G} {w} {x} {m} new h r = record {
+  served = λ q. served-wider (λ v e. reach-within may from to F H v e (λ f. h .free e f .0) (λ f. h .held e f .0)) (r .gave q .served);
   blocked = λ q. let s = r .stuck q in record {
     group = S;
     self = s .self;
     holders = λ v t. s .holders v t (new v);
-    closed = λ v t e l o. s .closed v t (new v) e l (within-reach rows from to F H v e (h .all e) o);
+    closed = λ v t e l o. s .closed v t (new v) e l (within-reach may from to F H v e (h .all e) o);
   };
   same = r .same;
 }

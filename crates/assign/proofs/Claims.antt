@@ -17,18 +17,18 @@ use Rattle.assign.proofs.Pieces.{slice-at}
 use Rattle.assign.proofs.Assignments.{assigns-test, test-assigns}
 
 pub sound : Sound
-sound rows first k from to found w h f = h .best f .holds
+sound may first k from to found w h f = h .best f .holds
 
 pub complete : Complete
-complete rows first k from to found w h a g = ⊎-elim (λ f. f) (λ f. absurd (h .none f a g)) (holds? found)
+complete may first k from to found w h a g = ⊎-elim (λ f. f) (λ f. absurd (h .none f a g)) (holds? found)
 
 pub least : Least
-least rows first k from to found w h a g = h .best (complete rows first k from to found w h a g) .least a g
+least may first k from to found w h a g = h .best (complete may first k from to found w h a g) .least a g
 
 -- two answers of which one was found
-both-found : {rows : List ℕ} {first k from to : ℕ} {found found' : Bool} {w w' : List ℕ}
-    → Answer rows first k from to found w → Answer rows first k from to found' w' → found ≡ true → found' ≡ true
-both-found {rows} {first} {k} {from} {to} {found} {found'} {w} {w'} p q f = complete rows first k from to found' w' q (slice from to w) (p .best f .holds)
+both-found : {may : ℕ → ℕ → Bool} {first k from to : ℕ} {found found' : Bool} {w w' : List ℕ}
+    → Answer may first k from to found w → Answer may first k from to found' w' → found ≡ true → found' ≡ true
+both-found {may} {first} {k} {from} {to} {found} {found'} {w} {w'} p q f = complete may first k from to found' w' q (slice from to w) (p .best f .holds)
 
 -- two lists with the same piece, and the same around it
 same-around : (from to : ℕ) (w w' : List ℕ) → length w ≡ 32 → length w' ≡ 32 → slice from to w ≡ slice from to w'
@@ -45,7 +45,7 @@ same-around from to w w' n n' s out = ext-getD 0 w w' (n ∙ sym n') (λ i l. �
     (holds? (between from to i)))
 
 pub unique : Unique
-unique rows first k from to found found' w w' piece end p q = ⊎-elim
+unique may first k from to found found' w w' piece end p q = ⊎-elim
     (λ (f : found ≡ true).
     let f' = both-found p q f in
     (f ∙ sym f', same-around from to w w' (p .size) (q .size) (first-unique (p .best f) (q .best f')) (λ i l b. p .outside i l b ∙ sym (q .outside i l b))))
@@ -55,10 +55,10 @@ unique rows first k from to found found' w w' piece end p q = ⊎-elim
     (holds? found)
 
 pub explained : Explained
-explained rows first k from to found w block piece end h = (
+explained may first k from to found w block piece end h = (
   h .short,
   λ s. not-so found (λ f. short-never s block piece end (slice from to w) (h .best f .holds)),
 )
 
 pub tested : Tested
-tested rows first k from to a n = (assigns-test, test-assigns n)
+tested may first k from to a n = (assigns-test, test-assigns n)

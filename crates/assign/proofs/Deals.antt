@@ -8,7 +8,7 @@ use native.Mathlib.Omega.{arith}
 use lib.Dec.{eqb}
 use lib.ListN.{length, getD, set, replicate, length-set, length-replicate, getD-replicate}
 use lib.Seq.{getD-set-same, getD-set-other}
-use Rattle.masks.specs.Rows.{oneIf, may, between, cnt}
+use Rattle.masks.specs.Rows.{oneIf, between, cnt}
 use Rattle.assign.specs.Assignment.{Short}
 use Rattle.assign.specs.Chain.{within, Served, Blocked}
 use Rattle.assign.specs.Saturate.{fits, Dealt}
@@ -18,52 +18,52 @@ use Rattle.assign.proofs.Counting.{cnt-set, cnt-at, cnt-place}
 use Rattle.assign.proofs.Groups.{blocked-never, blocked-short}
 
 -- ---- what fits
-pub within-may : (rows : List ℕ) (from to v e : ℕ) → within rows from to v e ≡ true → may rows v e ≡ true
+pub within-may : (may : ℕ → ℕ → Bool) (from to v e : ℕ) → within may from to v e ≡ true → may v e ≡ true
 unfolding within
-within-may rows from to v e = and-left (may rows v e) (between from to e)
+within-may may from to v e = and-left (may v e) (between from to e)
 
-pub within-piece : (rows : List ℕ) (from to v e : ℕ) → within rows from to v e ≡ true → between from to e ≡ true
+pub within-piece : (may : ℕ → ℕ → Bool) (from to v e : ℕ) → within may from to v e ≡ true → between from to e ≡ true
 unfolding within
-within-piece rows from to v e = and-right (may rows v e) (between from to e)
+within-piece may from to v e = and-right (may v e) (between from to e)
 
-pub within-in : (rows : List ℕ) (from to v e : ℕ) → may rows v e ≡ true → from ≤ e → e < to → within rows from to v e ≡ true
+pub within-in : (may : ℕ → ℕ → Bool) (from to v e : ℕ) → may v e ≡ true → from ≤ e → e < to → within may from to v e ≡ true
 unfolding within
-within-in rows from to v e r f t = both (may rows v e) (between from to e) r (between-in from to e f t)
+within-in may from to v e r f t = both (may v e) (between from to e) r (between-in from to e f t)
 
-pub fits-block : (rows : List ℕ) (first k from to v e : ℕ) → fits rows first k from to v e ≡ true → between first (first + k) v ≡ true
+pub fits-block : (may : ℕ → ℕ → Bool) (first k from to v e : ℕ) → fits may first k from to v e ≡ true → between first (first + k) v ≡ true
 unfolding fits
-fits-block rows first k from to v e = and-left (between first (first + k) v) (within rows from to v e)
+fits-block may first k from to v e = and-left (between first (first + k) v) (within may from to v e)
 
-pub fits-within : (rows : List ℕ) (first k from to v e : ℕ) → fits rows first k from to v e ≡ true → within rows from to v e ≡ true
+pub fits-within : (may : ℕ → ℕ → Bool) (first k from to v e : ℕ) → fits may first k from to v e ≡ true → within may from to v e ≡ true
 unfolding fits
-fits-within rows first k from to v e = and-right (between first (first + k) v) (within rows from to v e)
+fits-within may first k from to v e = and-right (between first (first + k) v) (within may from to v e)
 
-pub fits-in : (rows : List ℕ) (first k from to v e : ℕ) → between first (first + k) v ≡ true → within rows from to v e ≡ true → fits rows first k from to v e ≡ true
+pub fits-in : (may : ℕ → ℕ → Bool) (first k from to v e : ℕ) → between first (first + k) v ≡ true → within may from to v e ≡ true → fits may first k from to v e ≡ true
 unfolding fits
-fits-in rows first k from to v e = both (between first (first + k) v) (within rows from to v e)
+fits-in may first k from to v e = both (between first (first + k) v) (within may from to v e)
 
 -- each byte is 255, or a member that fits
-abbrev Right : List ℕ → ℕ → ℕ → ℕ → ℕ → List ℕ → Type 0
-Right rows first k from to w = (e : ℕ) → e < 32 → (getD w e 0 ≡ 255) ⊎ (fits rows first k from to (getD w e 0) e ≡ true)
+abbrev Right : (ℕ → ℕ → Bool) → ℕ → ℕ → ℕ → ℕ → List ℕ → Type 0
+Right may first k from to w = (e : ℕ) → e < 32 → (getD w e 0 ≡ 255) ⊎ (fits may first k from to (getD w e 0) e ≡ true)
 
 -- a byte below 255 is a member that fits
-right-fits : (rows : List ℕ) (first k from to : ℕ) (w : List ℕ) → Right rows first k from to w → (e : ℕ) → e < 32 → getD w e 0 < 255 → fits rows first k from to (getD w e 0) e ≡ true
-right-fits rows first k from to w right e l z = ⊎-elim (λ (q : getD w e 0 ≡ 255). absurd (omega arith)) (λ h. h) (right e l)
+right-fits : (may : ℕ → ℕ → Bool) (first k from to : ℕ) (w : List ℕ) → Right may first k from to w → (e : ℕ) → e < 32 → getD w e 0 < 255 → fits may first k from to (getD w e 0) e ≡ true
+right-fits may first k from to w right e l z = ⊎-elim (λ (q : getD w e 0 ≡ 255). absurd (omega arith)) (λ h. h) (right e l)
 
 -- a member that holds a place is of the block
-right-block : (rows : List ℕ) (first k from to : ℕ) (w : List ℕ) → Right rows first k from to w → length w ≡ 32 → (v : ℕ) → v < 255 → 1 ≤ cnt v w → between first (first + k) v ≡ true
-right-block rows first k from to w right size v z c =
+right-block : (may : ℕ → ℕ → Bool) (first k from to : ℕ) (w : List ℕ) → Right may first k from to w → length w ≡ 32 → (v : ℕ) → v < 255 → 1 ≤ cnt v w → between first (first + k) v ≡ true
+right-block may first k from to w right size v z c =
     let s = cnt-place v w c in
     let h = s .here in
     let l : s .place < 32 = omega (arith, s .early) in
-    subst (λ (x : ℕ). between first (first + k) x ≡ true) h (fits-block rows first k from to _ (s .place) (right-fits rows first k from to w right (s .place) l (omega arith)))
+    subst (λ (x : ℕ). between first (first + k) x ≡ true) h (fits-block may first k from to _ (s .place) (right-fits may first k from to w right (s .place) l (omega arith)))
 
-module _ {rows : List ℕ} {first k from to : ℕ} {w : List ℕ} (d : Dealt rows first k from to w) where
-  pub dealt-fits : (e : ℕ) → e < 32 → getD w e 0 < 255 → fits rows first k from to (getD w e 0) e ≡ true
-  dealt-fits = right-fits rows first k from to w (d .right)
+module _ {may : ℕ → ℕ → Bool} {first k from to : ℕ} {w : List ℕ} (d : Dealt may first k from to w) where
+  pub dealt-fits : (e : ℕ) → e < 32 → getD w e 0 < 255 → fits may first k from to (getD w e 0) e ≡ true
+  dealt-fits = right-fits may first k from to w (d .right)
 
   pub dealt-block : (v : ℕ) → v < 255 → 1 ≤ cnt v w → between first (first + k) v ≡ true
-  dealt-block = right-block rows first k from to w (d .right) (d .size)
+  dealt-block = right-block may first k from to w (d .right) (d .size)
 
   -- a member that is not of the block has no place, and no member has two
   pub dealt-none : (v : ℕ) → v < 255 → (between first (first + k) v ≡ true → ⊥) → cnt v w ≡ 0
@@ -79,10 +79,10 @@ module _ {rows : List ℕ} {first k from to : ℕ} {w : List ℕ} (d : Dealt row
       (below? (cnt v w) 1)
 
 -- ---- one member more
-right-served : (rows : List ℕ) (first k from to : ℕ) {ok : ℕ → ℕ → Bool} {w x : List ℕ} {m : ℕ} → first + k ≤ 32 → length w ≡ 32 → Right rows first k from to w
-    → between first (first + k) m ≡ true → ((v e : ℕ) → ok v e ≡ true → within rows from to v e ≡ true) → Served ok w m x → Right rows first k from to x
-right-served rows first k from to {ok} {w} {x} {m} block size right member wide s e l =
-    let same : (y : ℕ) → getD x e 0 ≡ getD w e 0 → (getD x e 0 ≡ 255) ⊎ (fits rows first k from to (getD x e 0) e ≡ true) = λ y q. rw q (right e l) in
+right-served : (may : ℕ → ℕ → Bool) (first k from to : ℕ) {ok : ℕ → ℕ → Bool} {w x : List ℕ} {m : ℕ} → first + k ≤ 32 → length w ≡ 32 → Right may first k from to w
+    → between first (first + k) m ≡ true → ((v e : ℕ) → ok v e ≡ true → within may from to v e ≡ true) → Served ok w m x → Right may first k from to x
+right-served may first k from to {ok} {w} {x} {m} block size right member wide s e l =
+    let same : (y : ℕ) → getD x e 0 ≡ getD w e 0 → (getD x e 0 ≡ 255) ⊎ (fits may first k from to (getD x e 0) e ≡ true) = λ y q. rw q (right e l) in
     ⊎-elim
     (λ (z : getD x e 0 < 32). ⊎-elim
     (λ (q : getD x e 0 ≡ getD w e 0). same 0 q)
@@ -91,9 +91,9 @@ right-served rows first k from to {ok} {w} {x} {m} block size right member wide 
     let at-least = cnt-at x e (omega arith) in
     let b : between first (first + k) (getD x e 0) ≡ true = ⊎-elim
     (λ (q : getD x e 0 ≡ m). rw q member)
-    (λ (q : getD x e 0 ≡ m → ⊥). let others = s .others (getD x e 0) z q in right-block rows first k from to w right size (getD x e 0) (omega arith) (omega arith))
+    (λ (q : getD x e 0 ≡ m → ⊥). let others = s .others (getD x e 0) z q in right-block may first k from to w right size (getD x e 0) (omega arith) (omega arith))
     (same? (getD x e 0) m) in
-    inr (fits-in rows first k from to (getD x e 0) e b (wide (getD x e 0) e o)))
+    inr (fits-in may first k from to (getD x e 0) e b (wide (getD x e 0) e o)))
     (s .moved e))
     (λ (z : 32 ≤ getD x e 0). same 0 (s .spare e z))
     (below? (getD x e 0) 32)
@@ -101,22 +101,22 @@ right-served rows first k from to {ok} {w} {x} {m} block size right member wide 
 between-more : (first j v : ℕ) → between first (first + j) v ≡ true → between first (first + (j + 1)) v ≡ true
 between-more first j v b = let x = between-from first (first + j) v b in let y = between-to first (first + j) v b in between-in first (first + (j + 1)) v x (omega arith)
 
-pub dealt-empty : {rows : List ℕ} {first k from to : ℕ} → k ≡ 0 → Dealt rows first k from to (replicate 32 255)
-dealt-empty {rows} {first} {k} {from} {to} none = record {
+pub dealt-empty : {may : ℕ → ℕ → Bool} {first k from to : ℕ} → k ≡ 0 → Dealt may first k from to (replicate 32 255)
+dealt-empty {may} {first} {k} {from} {to} none = record {
   size = length-replicate {A = ℕ} 32 255;
   right = λ e l. inl (getD-replicate {A = ℕ} 32 e 255 0 l);
   once = λ m f t. absurd (omega arith);
 }
 
-module _ {rows : List ℕ} {first j from to : ℕ} {w : List ℕ} (d : Dealt rows first j from to w) where
+module _ {may : ℕ → ℕ → Bool} {first j from to : ℕ} {w : List ℕ} (d : Dealt may first j from to w) where
   next-none : first + j < 32 → cnt (first + j) w ≡ 0
   next-none l = dealt-none d (first + j) (omega arith) (λ b. let y = between-to first (first + j) (first + j) b in omega arith)
 
-  pub dealt-more : {x : List ℕ} → first + j < 32 → Served (within rows from to) w (first + j) x → Dealt rows first (j + 1) from to x
+  pub dealt-more : {x : List ℕ} → first + j < 32 → Served (within may from to) w (first + j) x → Dealt may first (j + 1) from to x
   dealt-more {x} l s = record {
     size = s .size ∙ d .size;
-    right = right-served rows first (j + 1) from to (omega arith) (d .size)
-        (λ e z. ⊎-elim inl (λ f. inr (fits-in rows first (j + 1) from to _ e (between-more first j _ (fits-block rows first j from to _ e f)) (fits-within rows first j from to _ e f))) (d .right e z))
+    right = right-served may first (j + 1) from to (omega arith) (d .size)
+        (λ e z. ⊎-elim inl (λ f. inr (fits-in may first (j + 1) from to _ e (between-more first j _ (fits-block may first j from to _ e f)) (fits-within may first j from to _ e f))) (d .right e z))
         (between-in first (first + (j + 1)) (first + j) (omega arith) (omega arith)) (λ v e o. o) s;
     once = λ m f t. ⊎-elim
         (λ (q : m ≡ first + j). let a = s .more in let b = next-none l in rw q (omega arith))
@@ -125,7 +125,7 @@ module _ {rows : List ℕ} {first j from to : ℕ} {w : List ℕ} (d : Dealt row
   }
 
   -- no chain for the next member: a group of the block is short
-  pub dealt-short : {k : ℕ} → j < k → first + k ≤ 32 → Blocked (within rows from to) w (first + j) → Short rows first k from to
+  pub dealt-short : {k : ℕ} → j < k → first + k ≤ 32 → Blocked (within may from to) w (first + j) → Short may first k from to
   dealt-short {k} l block b = blocked-short b (d .size) (omega arith) (next-none (omega arith)) (λ v z. dealt-one d v (omega arith))
       (λ v. ⊎-elim
       (λ (q : v ≡ first + j). between-in first (first + k) v (omega arith) (omega arith))
@@ -167,26 +167,26 @@ module _ (w : List ℕ) (p e m : ℕ) (size : length w ≡ 32) (later : e < p) (
       let h = miss 255 v (λ q. omega arith) in
       omega arith
 
-  swap-right : (rows : List ℕ) (first k from to : ℕ) → fits rows first k from to m e ≡ true → Right rows first k from to w → Right rows first k from to (swap w p e m)
-  swap-right rows first k from to f right i l = ⊎-elim
-      (λ (q : i ≡ e). inr (subst (λ (j : ℕ). fits rows first k from to (getD (swap w p e m) j 0) j ≡ true) (sym q) (subst (λ (x : ℕ). fits rows first k from to x e ≡ true) (sym swap-here) f)))
+  swap-right : (may : ℕ → ℕ → Bool) (first k from to : ℕ) → fits may first k from to m e ≡ true → Right may first k from to w → Right may first k from to (swap w p e m)
+  swap-right may first k from to f right i l = ⊎-elim
+      (λ (q : i ≡ e). inr (subst (λ (j : ℕ). fits may first k from to (getD (swap w p e m) j 0) j ≡ true) (sym q) (subst (λ (x : ℕ). fits may first k from to x e ≡ true) (sym swap-here) f)))
       (λ (q : i ≡ e → ⊥). ⊎-elim
       (λ (r : i ≡ p). inl (ap (λ (j : ℕ). getD (swap w p e m) j 0) r ∙ swap-old))
-      (λ (r : i ≡ p → ⊥). let z = swap-other i q r in ⊎-elim (λ h. inl (z ∙ h)) (λ h. inr (subst (λ (x : ℕ). fits rows first k from to x i ≡ true) (sym z) h)) (right i l))
+      (λ (r : i ≡ p → ⊥). let z = swap-other i q r in ⊎-elim (λ h. inl (z ∙ h)) (λ h. inr (subst (λ (x : ℕ). fits may first k from to x i ≡ true) (sym z) h)) (right i l))
       (same? i p))
       (same? i e)
 
 -- ---- one exchange
-module _ {rows : List ℕ} {first k from to : ℕ} {w : List ℕ} {e m : ℕ} (block : first + k ≤ 32) (ask : Asks rows first k from to w e m) (before : e < to) (end : to ≤ 32) where
-  ask-fits : fits rows first k from to m e ≡ true
-  ask-fits = fits-in rows first k from to m e (ask .member) (within-in rows from to m e (ask .may-take) (ask .after) before)
+module _ {may : ℕ → ℕ → Bool} {first k from to : ℕ} {w : List ℕ} {e m : ℕ} (block : first + k ≤ 32) (ask : Asks may first k from to w e m) (before : e < to) (end : to ≤ 32) where
+  ask-fits : fits may first k from to m e ≡ true
+  ask-fits = fits-in may first k from to m e (ask .member) (within-in may from to m e (ask .may-take) (ask .after) before)
 
   module _ {p : ℕ} (later : e < p) (low : p < 32) (there : getD w p 0 ≡ m) where
-    swapped-right : Right rows first k from to (swap w p e m)
-    swapped-right = swap-right w p e m (ask .dealt .size) later low there rows first k from to ask-fits (ask .dealt .right)
+    swapped-right : Right may first k from to (swap w p e m)
+    swapped-right = swap-right w p e m (ask .dealt .size) later low there may first k from to ask-fits (ask .dealt .right)
 
     -- e was spare
-    pub exchange-spare : 32 ≤ getD w e 0 → Tries rows first k from to w e m (swap w p e m)
+    pub exchange-spare : 32 ≤ getD w e 0 → Tries may first k from to w e m (swap w p e m)
     exchange-spare spare = record {
       dealt = record {
         size = swap-size w p e m (ask .dealt .size) later low there;
@@ -203,7 +203,7 @@ module _ {rows : List ℕ} {first k from to : ℕ} {w : List ℕ} {e m : ℕ} (b
 
     module _ (held : getD w e 0 < 32) where
       owner-block : between first (first + k) (getD w e 0) ≡ true
-      owner-block = fits-block rows first k from to _ e (dealt-fits (ask .dealt) e (omega arith) (omega arith))
+      owner-block = fits-block may first k from to _ e (dealt-fits (ask .dealt) e (omega arith) (omega arith))
 
       owner-left : cnt (getD w e 0) (swap w p e m) ≡ 0
       owner-left =
@@ -213,22 +213,22 @@ module _ {rows : List ℕ} {first k from to : ℕ} {w : List ℕ} {e m : ℕ} (b
           omega arith
 
       -- its owner was served by a place after e
-      pub exchange-served : {y : List ℕ} → Served (within rows (e + 1) to) (swap w p e m) (getD w e 0) y → Tries rows first k from to w e m y
+      pub exchange-served : {y : List ℕ} → Served (within may (e + 1) to) (swap w p e m) (getD w e 0) y → Tries may first k from to w e m y
       exchange-served {y} s =
           let x = swap w p e m in
           let as-x : (i : ℕ) → i < e + 1 → getD y i 0 ≡ getD x i 0 = λ i l. ⊎-elim
           (λ (q : getD y i 0 ≡ getD x i 0). q)
-          (λ (o : within rows (e + 1) to (getD y i 0) i ≡ true). let b = between-from (e + 1) to i (within-piece rows (e + 1) to _ i o) in absurd (omega arith))
+          (λ (o : within may (e + 1) to (getD y i 0) i ≡ true). let b = between-from (e + 1) to i (within-piece may (e + 1) to _ i o) in absurd (omega arith))
           (s .moved i) in
           record {
             dealt = record {
               size = s .size ∙ swap-size w p e m (ask .dealt .size) later low there;
-              right = right-served rows first k from to block (swap-size w p e m (ask .dealt .size) later low there) swapped-right owner-block
+              right = right-served may first k from to block (swap-size w p e m (ask .dealt .size) later low there) swapped-right owner-block
                   (λ v i o.
-                  let b = within-piece rows (e + 1) to v i o in
+                  let b = within-piece may (e + 1) to v i o in
                   let f = between-from (e + 1) to i b in
                   let a = ask .after in
-                  within-in rows from to v i (within-may rows (e + 1) to v i o) (omega arith) (between-to (e + 1) to i b)) s;
+                  within-in may from to v i (within-may may (e + 1) to v i o) (omega arith) (between-to (e + 1) to i b)) s;
               once = λ v f t.
                   let c = swap-cnt w p e m (ask .dealt .size) later low there v (omega arith) in
                   let o = ask .dealt .once v f t in
@@ -242,7 +242,7 @@ module _ {rows : List ℕ} {first k from to : ℕ} {w : List ℕ} {e m : ℕ} (b
           }
 
       -- its owner cannot be served by a place after e
-      pub exchange-blocked : Blocked (within rows (e + 1) to) (swap w p e m) (getD w e 0) → (a : List ℕ) → Tries rows first k from to w e m a → ⊥
+      pub exchange-blocked : Blocked (within may (e + 1) to) (swap w p e m) (getD w e 0) → (a : List ℕ) → Tries may first k from to w e m a → ⊥
       exchange-blocked b a t =
           let size = ask .dealt .size in
           let once-a : (v : ℕ) → between first (first + k) v ≡ true → 1 ≤ cnt v a = λ v i. let o = t .dealt .once v (between-from first (first + k) v i) (between-to first (first + k) v i) in omega arith in
@@ -254,8 +254,8 @@ module _ {rows : List ℕ} {first k from to : ℕ} {w : List ℕ} {e m : ℕ} (b
           (λ (q : e ≤ i). ⊎-elim
           (λ (r : i ≡ e). inl (ap (λ (j : ℕ). getD a j 0) r ∙ t .takes ∙ sym (swap-here w p e m size later low there) ∙ ap (λ (j : ℕ). getD (swap w p e m) j 0) (sym r)))
           (λ (r : i ≡ e → ⊥).
-          let f = fits-within rows first k from to _ i (dealt-fits (t .dealt) i l (omega arith)) in
-          inr (within-in rows (e + 1) to _ i (within-may rows from to _ i f) (omega arith) (between-to from to i (within-piece rows from to _ i f))))
+          let f = fits-within may first k from to _ i (dealt-fits (t .dealt) i l (omega arith)) in
+          inr (within-in may (e + 1) to _ i (within-may may from to _ i f) (omega arith) (between-to from to i (within-piece may from to _ i f))))
           (same? i e))
           (below? i e))
           (once-a (getD w e 0) owner-block)

@@ -24,28 +24,28 @@ the-lesser = refl
 rows : List ℕ
 rows = 3 ∷ 1 ∷ []
 
-crossed : assigns rows 0 2 0 (1 ∷ 0 ∷ []) ≡ true
+crossed : assigns (may rows) 0 2 0 (1 ∷ 0 ∷ []) ≡ true
 unfolding rows assigns allRight allOnce takes between may bit cnt
 crossed = refl
 
-not-allowed : assigns rows 0 2 0 (0 ∷ 1 ∷ []) ≡ false
+not-allowed : assigns (may rows) 0 2 0 (0 ∷ 1 ∷ []) ≡ false
 unfolding rows assigns allRight allOnce takes between may bit cnt
 not-allowed = refl
 
-a-spare : assigns rows 0 1 0 (255 ∷ 0 ∷ []) ≡ true
+a-spare : assigns (may rows) 0 1 0 (255 ∷ 0 ∷ []) ≡ true
 unfolding rows assigns allRight allOnce takes between may bit cnt
 a-spare = refl
 
-twice : assigns rows 0 1 0 (0 ∷ 0 ∷ []) ≡ false
+twice : assigns (may rows) 0 1 0 (0 ∷ 0 ∷ []) ≡ false
 unfolding rows assigns allRight allOnce takes between may bit cnt
 twice = refl
 
-not-of-the-block : assigns rows 1 1 0 (1 ∷ 0 ∷ []) ≡ false
+not-of-the-block : assigns (may rows) 1 1 0 (1 ∷ 0 ∷ []) ≡ false
 unfolding rows assigns allRight allOnce takes between may bit cnt
 not-of-the-block = refl
 
 -- the same rows on the elements from 1 on
-later-piece : assigns rows 0 1 1 (0 ∷ []) ≡ true
+later-piece : assigns (may rows) 0 1 1 (0 ∷ []) ≡ true
 unfolding rows assigns allRight allOnce takes between may bit cnt
 later-piece = refl
 
@@ -53,7 +53,7 @@ later-piece = refl
 crowd : List ℕ
 crowd = 7 ∷ 7 ∷ 7 ∷ 7 ∷ []
 
-three-elements : joined crowd (between 0 4) 0 8 ≡ 3
+three-elements : joined (may crowd) (between 0 4) 0 8 ≡ 3
 unfolding crowd count wanted anyBelow between may bit
 three-elements = refl
 

@@ -11,7 +11,7 @@ use native.Mathlib.Omega.{arith}
 use lib.Dec.{eqb}
 use lib.ListN.{length, getD}
 use borrow.Author.Tests.{eqb-true, eq-eqb}
-use Rattle.masks.specs.Rows.{may, between, cnt, count, anyBelow}
+use Rattle.masks.specs.Rows.{between, cnt, count, anyBelow}
 use Rattle.assign.specs.Assignment.{takes, Assigns, wanted, Short}
 use Rattle.assign.specs.Chain.{within, Blocked}
 use Rattle.masks.proofs.Lemmas.{same?, clash, and-left, and-right, both, one-of, or-left, or-right, between-in, between-from, between-to}
@@ -47,20 +47,20 @@ pub count-mono : (P : ℕ → Bool) (n k : ℕ) → n ≤ k → count P n ≤ co
 count-mono P n k l = let u = count-up P n (k - n) in let z : k - n + n ≡ k = omega arith in let e = ap (λ (j : ℕ). count P j) z in omega arith
 
 -- ---- what a byte of an assignment is
-pub takes-inv : (rows : List ℕ) (first k e x : ℕ) → takes rows first k e x ≡ true → (x ≡ 255) ⊎ ((between first (first + k) x ≡ true) × (may rows x e ≡ true))
+pub takes-inv : (may : ℕ → ℕ → Bool) (first k e x : ℕ) → takes may first k e x ≡ true → (x ≡ 255) ⊎ ((between first (first + k) x ≡ true) × (may x e ≡ true))
 unfolding takes
-takes-inv rows first k e x h = ⊎-elim
+takes-inv may first k e x h = ⊎-elim
     (λ (p : eqb x 255 ≡ true). inl (eqb-true x 255 p))
-    (λ (p : (between first (first + k) x && may rows x e) ≡ true). inr (and-left (between first (first + k) x) (may rows x e) p, and-right (between first (first + k) x) (may rows x e) p))
-    (one-of (eqb x 255) (between first (first + k) x && may rows x e) h)
+    (λ (p : (between first (first + k) x && may x e) ≡ true). inr (and-left (between first (first + k) x) (may x e) p, and-right (between first (first + k) x) (may x e) p))
+    (one-of (eqb x 255) (between first (first + k) x && may x e) h)
 
-pub takes-spare : (rows : List ℕ) (first k e x : ℕ) → x ≡ 255 → takes rows first k e x ≡ true
+pub takes-spare : (may : ℕ → ℕ → Bool) (first k e x : ℕ) → x ≡ 255 → takes may first k e x ≡ true
 unfolding takes
-takes-spare rows first k e x q = or-left (eqb x 255) (between first (first + k) x && may rows x e) (eq-eqb x 255 q)
+takes-spare may first k e x q = or-left (eqb x 255) (between first (first + k) x && may x e) (eq-eqb x 255 q)
 
-pub takes-member : (rows : List ℕ) (first k e x : ℕ) → between first (first + k) x ≡ true → may rows x e ≡ true → takes rows first k e x ≡ true
+pub takes-member : (may : ℕ → ℕ → Bool) (first k e x : ℕ) → between first (first + k) x ≡ true → may x e ≡ true → takes may first k e x ≡ true
 unfolding takes
-takes-member rows first k e x b r = or-right (eqb x 255) (between first (first + k) x && may rows x e) (both (between first (first + k) x) (may rows x e) b r)
+takes-member may first k e x b r = or-right (eqb x 255) (between first (first + k) x && may x e) (both (between first (first + k) x) (may x e) b r)
 
 -- ---- the group of a failed search
 module _ {ok : ℕ → ℕ → Bool} {w : List ℕ} {m : ℕ} (b : Blocked ok w m) (size : length w ≡ 32) (low : m < 32) (none : cnt m w ≡ 0)
@@ -81,30 +81,30 @@ module _ {ok : ℕ → ℕ → Bool} {w : List ℕ} {m : ℕ} (b : Blocked ok w 
       (b .holders v s)) in
       omega arith
 
-within-in : (rows : List ℕ) (from to v e : ℕ) → may rows v e ≡ true → between from to e ≡ true → within rows from to v e ≡ true
+within-in : (may : ℕ → ℕ → Bool) (from to v e : ℕ) → may v e ≡ true → between from to e ≡ true → within may from to v e ≡ true
 unfolding within
-within-in rows from to v e = both (may rows v e) (between from to e)
+within-in may from to v e = both (may v e) (between from to e)
 
-want-inv : (rows : List ℕ) (group : ℕ → Bool) (e : ℕ) → wanted rows group e ≡ true → (v : ℕ) × (group v ≡ true) × (may rows v e ≡ true)
+want-inv : (may : ℕ → ℕ → Bool) (group : ℕ → Bool) (e : ℕ) → wanted may group e ≡ true → (v : ℕ) × (group v ≡ true) × (may v e ≡ true)
 unfolding wanted
-want-inv rows group e h =
-    let f = any-found (λ v. group v && may rows v e) 32 h in
-    (f .0, and-left (group (f .0)) (may rows (f .0) e) (f .2), and-right (group (f .0)) (may rows (f .0) e) (f .2))
+want-inv may group e h =
+    let f = any-found (λ v. group v && may v e) 32 h in
+    (f .0, and-left (group (f .0)) (may (f .0) e) (f .2), and-right (group (f .0)) (may (f .0) e) (f .2))
 
-want-in : (rows : List ℕ) (group : ℕ → Bool) (v e : ℕ) → v < 32 → group v ≡ true → may rows v e ≡ true → wanted rows group e ≡ true
+want-in : (may : ℕ → ℕ → Bool) (group : ℕ → Bool) (v e : ℕ) → v < 32 → group v ≡ true → may v e ≡ true → wanted may group e ≡ true
 unfolding wanted
-want-in rows group v e l g r = any-in (λ v. group v && may rows v e) 32 v l (both (group v) (may rows v e) g r)
+want-in may group v e l g r = any-in (λ v. group v && may v e) 32 v l (both (group v) (may v e) g r)
 
-pub blocked-short : {rows : List ℕ} {first k from to : ℕ} {w : List ℕ} {m : ℕ} (b : Blocked (within rows from to) w m) → length w ≡ 32 → m < 32 → cnt m w ≡ 0
+pub blocked-short : {may : ℕ → ℕ → Bool} {first k from to : ℕ} {w : List ℕ} {m : ℕ} (b : Blocked (within may from to) w m) → length w ≡ 32 → m < 32 → cnt m w ≡ 0
     → ((v : ℕ) → v < 32 → cnt v w ≤ 1) → ((v : ℕ) → (v ≡ m) ⊎ ((v < 32) × (1 ≤ cnt v w)) → between first (first + k) v ≡ true)
-    → Short rows first k from to
-blocked-short {rows} {first} {k} {from} {to} {w} {m} b size low none once inside =
+    → Short may first k from to
+blocked-short {may} {first} {k} {from} {to} {w} {m} b size low none once inside =
     let group = b .group in
-    let E : ℕ → Bool = λ e. between from to e && wanted rows group e in
+    let E : ℕ → Bool = λ e. between from to e && wanted may group e in
     let x = places-onto group E 32 w 0 (λ i l h.
     let h' : E i ≡ true = subst (λ (j : ℕ). E j ≡ true) (omega arith) h in
-    let u = want-inv rows group i (and-right (between from to i) (wanted rows group i) h') in
-    let o = b .closed (u .0) (u .1) i (omega arith) (within-in rows from to (u .0) i (u .2) (and-left (between from to i) (wanted rows group i) h')) in
+    let u = want-inv may group i (and-right (between from to i) (wanted may group i) h') in
+    let o = b .closed (u .0) (u .1) i (omega arith) (within-in may from to (u .0) i (u .2) (and-left (between from to i) (wanted may group i) h')) in
     (o .low, o .seen)) in
     let y = places-count group 32 w m low (b .self) none (λ v l s. once v l) in
     let z = count-zero E in
@@ -113,18 +113,18 @@ blocked-short {rows} {first} {k} {from} {to} {w} {m} b size low none once inside
     record { group = group; inside = λ v g. inside v (b .holders v g); few = omega arith }
 
 -- ---- where a group is short there is no assignment
-pub short-never : {rows : List ℕ} {first k from to : ℕ} → Short rows first k from to → first + k ≤ 32 → from ≤ to → to ≤ 32
-    → (a : List ℕ) → Assigns rows first k from to a → ⊥
-short-never {rows} {first} {k} {from} {to} s block piece end a h =
+pub short-never : {may : ℕ → ℕ → Bool} {first k from to : ℕ} → Short may first k from to → first + k ≤ 32 → from ≤ to → to ≤ 32
+    → (a : List ℕ) → Assigns may first k from to a → ⊥
+short-never {may} {first} {k} {from} {to} s block piece end a h =
     let group = s .group in
-    let E : ℕ → Bool = λ e. between from to e && wanted rows group e in
+    let E : ℕ → Bool = λ e. between from to e && wanted may group e in
     let size = h .size in
     let x = places-into group E 32 a from (λ i l z g.
-    let r : may rows (getD a i 0) (from + i) ≡ true = ⊎-elim
+    let r : may (getD a i 0) (from + i) ≡ true = ⊎-elim
     (λ (q : getD a i 0 ≡ 255). absurd (omega arith))
-    (λ (q : (between first (first + k) (getD a i 0) ≡ true) × (may rows (getD a i 0) (from + i) ≡ true)). q .1)
-    (takes-inv rows first k (from + i) (getD a i 0) (h .right i l)) in
-    both (between from to (from + i)) (wanted rows group (from + i)) (between-in from to (from + i) (omega arith) (omega arith)) (want-in rows group (getD a i 0) (from + i) z g r)) in
+    (λ (q : (between first (first + k) (getD a i 0) ≡ true) × (may (getD a i 0) (from + i) ≡ true)). q .1)
+    (takes-inv may first k (from + i) (getD a i 0) (h .right i l)) in
+    both (between from to (from + i)) (wanted may group (from + i)) (between-in from to (from + i) (omega arith) (omega arith)) (want-in may group (getD a i 0) (from + i) z g r)) in
     let y = count-places group 32 a (λ v l g.
     let i = s .inside v g in
     let o = h .once v (between-from first (first + k) v i) (between-to first (first + k) v i) in

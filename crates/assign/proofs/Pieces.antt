@@ -1,13 +1,13 @@
 -- Assignments of a piece, and the same as 32 bytes with 255 around. Assumes nothing.
 use mathlib.Core.Path.{_≡_, refl, sym, ap, _∙_, subst}
 use mathlib.Core.Logic.{_⊎_, inl, inr, ⊎-elim}
-use mathlib.Core.Bool.{true, false}
+use mathlib.Core.Bool.{Bool, true, false}
 use mathlib.Core.List.{List, _++_}
 use Prim.Native.Nat.{ℕ, _+_, _-_, _≤_, _<_}
 use native.Mathlib.Omega.{arith}
 use lib.ListN.{length, getD, take, drop, replicate, length-append, length-take, length-drop, length-replicate, getD-replicate, take-append-drop, List·getD-append}
 use lib.Seq.{slice, length-slice, getD-take, getD-drop, getD-append-add, ext-getD}
-use Rattle.masks.specs.Rows.{may, between, cnt}
+use Rattle.masks.specs.Rows.{between, cnt}
 use Rattle.assign.specs.Order.{earlier, First}
 use Rattle.assign.specs.Assignment.{takes, Assigns, Short, Answer}
 use Rattle.assign.specs.Saturate.{fits, Dealt}
@@ -40,8 +40,8 @@ cnt-slice v from to w l k out =
     omega arith
 
 -- the piece of an assignment of 32 bytes
-module _ {rows : List ℕ} {first k from to : ℕ} {w : List ℕ} (block : first + k ≤ 32) (piece : from ≤ to) (end : to ≤ 32) (d : Dealt rows first k from to w) where
-  pub dealt-assigns : Assigns rows first k from to (slice from to w)
+module _ {may : ℕ → ℕ → Bool} {first k from to : ℕ} {w : List ℕ} (block : first + k ≤ 32) (piece : from ≤ to) (end : to ≤ 32) (d : Dealt may first k from to w) where
+  pub dealt-assigns : Assigns may first k from to (slice from to w)
   dealt-assigns =
       let size = d .size in
       let long = length-slice from to w (omega arith) in
@@ -49,10 +49,10 @@ module _ {rows : List ℕ} {first k from to : ℕ} {w : List ℕ} (block : first
         size = long;
         right = λ i l.
             let q : getD (slice from to w) i 0 ≡ getD w (from + i) 0 = slice-at from to w i (omega arith) in
-            subst (λ (x : ℕ). takes rows first k (from + i) x ≡ true) (sym q) (⊎-elim
-            (λ (z : getD w (from + i) 0 ≡ 255). takes-spare rows first k (from + i) _ z)
-            (λ (f : fits rows first k from to (getD w (from + i) 0) (from + i) ≡ true).
-            takes-member rows first k (from + i) _ (fits-block rows first k from to _ (from + i) f) (within-may rows from to _ (from + i) (fits-within rows first k from to _ (from + i) f)))
+            subst (λ (x : ℕ). takes may first k (from + i) x ≡ true) (sym q) (⊎-elim
+            (λ (z : getD w (from + i) 0 ≡ 255). takes-spare may first k (from + i) _ z)
+            (λ (f : fits may first k from to (getD w (from + i) 0) (from + i) ≡ true).
+            takes-member may first k (from + i) _ (fits-block may first k from to _ (from + i) f) (within-may may from to _ (from + i) (fits-within may first k from to _ (from + i) f)))
             (d .right (from + i) (omega arith)));
         once = λ m f t.
             let c = cnt-slice m from to w piece (omega arith) (λ i l o q. let z = dealt-outside d i (omega arith) o in omega arith) in
@@ -98,8 +98,8 @@ module _ (from to : ℕ) (a : List ℕ) (size : length a ≡ to - from) (piece :
       let q = cnt-replicate v 255 (λ q. omega arith) (32 - to) in
       omega arith
 
-pub assigns-dealt : {rows : List ℕ} {first k from to : ℕ} {a : List ℕ} → first + k ≤ 32 → from ≤ to → to ≤ 32 → Assigns rows first k from to a → Dealt rows first k from to (pad from to a)
-assigns-dealt {rows} {first} {k} {from} {to} {a} block piece end h =
+pub assigns-dealt : {may : ℕ → ℕ → Bool} {first k from to : ℕ} {a : List ℕ} → first + k ≤ 32 → from ≤ to → to ≤ 32 → Assigns may first k from to a → Dealt may first k from to (pad from to a)
+assigns-dealt {may} {first} {k} {from} {to} {a} block piece end h =
     let size = h .size in
     record {
       size = pad-size from to a size piece end;
@@ -113,10 +113,10 @@ assigns-dealt {rows} {first} {k} {from} {to} {a} block piece end h =
           let p' : getD (pad from to a) e 0 ≡ getD a i 0 = subst (λ (j : ℕ). getD (pad from to a) j 0 ≡ getD a i 0) q p in
           ⊎-elim
           (λ (t : getD a i 0 ≡ 255). inl (p' ∙ t))
-          (λ (t : (between first (first + k) (getD a i 0) ≡ true) × (may rows (getD a i 0) (from + i) ≡ true)).
-          let r : may rows (getD a i 0) e ≡ true = subst (λ (j : ℕ). may rows (getD a i 0) j ≡ true) q (t .1) in
-          inr (subst (λ (x : ℕ). fits rows first k from to x e ≡ true) (sym p') (fits-in rows first k from to (getD a i 0) e (t .0) (within-in rows from to (getD a i 0) e r z y))))
-          (takes-inv rows first k (from + i) (getD a i 0) (h .right i (omega arith))))
+          (λ (t : (between first (first + k) (getD a i 0) ≡ true) × (may (getD a i 0) (from + i) ≡ true)).
+          let r : may (getD a i 0) e ≡ true = subst (λ (j : ℕ). may (getD a i 0) j ≡ true) q (t .1) in
+          inr (subst (λ (x : ℕ). fits may first k from to x e ≡ true) (sym p') (fits-in may first k from to (getD a i 0) e (t .0) (within-in may from to (getD a i 0) e r z y))))
+          (takes-inv may first k (from + i) (getD a i 0) (h .right i (omega arith))))
           (λ (y : to ≤ e).
           let i = e - to in
           let q : to + i ≡ e = omega arith in
@@ -127,9 +127,9 @@ assigns-dealt {rows} {first} {k} {from} {to} {a} block piece end h =
     }
 
 -- ---- the answers
-module _ {rows : List ℕ} {first k from to : ℕ} {w : List ℕ} (block : first + k ≤ 32) (piece : from ≤ to) (end : to ≤ 32) where
+module _ {may : ℕ → ℕ → Bool} {first k from to : ℕ} {w : List ℕ} (block : first + k ≤ 32) (piece : from ≤ to) (end : to ≤ 32) where
   -- every assignment is as w or comes later: the piece of w is the first
-  pub leads-first : Leads rows first k from to w to → First (Assigns rows first k from to) (slice from to w)
+  pub leads-first : Leads may first k from to w to → First (Assigns may first k from to) (slice from to w)
   leads-first h =
       let d = h .dealt in
       let long = d .size in
@@ -166,7 +166,7 @@ module _ {rows : List ℕ} {first k from to : ℕ} {w : List ℕ} (block : first
             (h .leads (pad from to a) (assigns-dealt block piece end g));
       }
 
-  pub answer-found : Leads rows first k from to w to → Answer rows first k from to true w
+  pub answer-found : Leads may first k from to w to → Answer may first k from to true w
   answer-found h = record {
     best = λ _. leads-first h;
     none = λ q. absurd (clash refl q);
@@ -176,7 +176,7 @@ module _ {rows : List ℕ} {first k from to : ℕ} {w : List ℕ} (block : first
     blank = λ q. absurd (clash refl q);
   }
 
-  pub answer-none : w ≡ replicate 32 255 → Short rows first k from to → Answer rows first k from to false w
+  pub answer-none : w ≡ replicate 32 255 → Short may first k from to → Answer may first k from to false w
   answer-none q s = record {
     best = λ p. absurd (clash p refl);
     none = λ _. short-never s block piece end;
@@ -187,11 +187,11 @@ module _ {rows : List ℕ} {first k from to : ℕ} {w : List ℕ} (block : first
   }
 
 -- a block of no members has one assignment: all is spare
-none-byte : {rows : List ℕ} {first k from to : ℕ} {a : List ℕ} → k ≡ 0 → Dealt rows first k from to a → (i : ℕ) → i < 32 → getD a i 0 ≡ 255
-none-byte {rows} {first} {k} {from} {to} {a} n d i l = ⊎-elim
+none-byte : {may : ℕ → ℕ → Bool} {first k from to : ℕ} {a : List ℕ} → k ≡ 0 → Dealt may first k from to a → (i : ℕ) → i < 32 → getD a i 0 ≡ 255
+none-byte {may} {first} {k} {from} {to} {a} n d i l = ⊎-elim
     (λ (q : getD a i 0 ≡ 255). q)
-    (λ (q : (first ≤ getD a i 0) × (getD a i 0 < first + k) × (may rows (getD a i 0) i ≡ true)). let y = q .0 in let z = q .1 in absurd (omega arith))
+    (λ (q : (first ≤ getD a i 0) × (getD a i 0 < first + k) × (may (getD a i 0) i ≡ true)). let y = q .0 in let z = q .1 in absurd (omega arith))
     (byte d i l)
 
-pub leads-none : {rows : List ℕ} {first k from to : ℕ} {w : List ℕ} → k ≡ 0 → to ≤ 32 → Dealt rows first k from to w → Leads rows first k from to w to
+pub leads-none : {may : ℕ → ℕ → Bool} {first k from to : ℕ} {w : List ℕ} → k ≡ 0 → to ≤ 32 → Dealt may first k from to w → Leads may first k from to w to
 leads-none n end d = record { dealt = d; leads = λ a da. inl (λ i l. none-byte n da i (omega arith) ∙ sym (none-byte n d i (omega arith))) }

@@ -1,8 +1,8 @@
 -- The alternating chain: what the contracts of src/chain.rt cite. Sets of members and of places are tests; `ok v e` says that
 -- member v may be given element e; a list w has at each place a member, or a byte from 32 on (the place is spare).
 -- Opened w from to F H    <-> F and H are the spare and the held places of the piece
--- reach rows F H v e       == v may take e, which is in F or H
--- within rows from to v e  == v may take e, which is in the piece
+-- reach may F H v e        == v may take e, which is in F or H
+-- within may from to v e   == v may take e, which is in the piece
 -- Ready F H P w m         <-> what `settle` asks: m is not in P, F has spare places only, and H held ones
 -- Served ok w m x         <-> x is w with one place more for m and as many as before for each other member; what changed is allowed
 -- Gave ok P w m x         <-> the same, and the places of the members of P and of m are as they were
@@ -20,18 +20,18 @@ use mathlib.Core.Bool.{Bool, true, false, _&&_, _||_}
 use mathlib.Core.List.{List}
 use Prim.Native.Nat.{ℕ, _+_, _≤_, _<_}
 use lib.ListN.{length, getD}
-use Rattle.masks.specs.Rows.{may, between, cnt}
+use Rattle.masks.specs.Rows.{between, cnt}
 
 pub record Opened (w : List ℕ) (from to : ℕ) (F H : ℕ → Bool) : Type 0 where
   pub free : (e : ℕ) → F e ≡ true → (between from to e ≡ true) × (32 ≤ getD w e 0)
   pub held : (e : ℕ) → H e ≡ true → (between from to e ≡ true) × (getD w e 0 < 32)
   pub all : (e : ℕ) → between from to e ≡ true → (F e || H e) ≡ true
 
-unfoldable pub reach : List ℕ → (ℕ → Bool) → (ℕ → Bool) → ℕ → ℕ → Bool
-reach rows F H v e = may rows v e && (F e || H e)
+unfoldable pub reach : (ℕ → ℕ → Bool) → (ℕ → Bool) → (ℕ → Bool) → ℕ → ℕ → Bool
+reach may F H v e = may v e && (F e || H e)
 
-unfoldable pub within : List ℕ → ℕ → ℕ → ℕ → ℕ → Bool
-within rows from to v e = may rows v e && between from to e
+unfoldable pub within : (ℕ → ℕ → Bool) → ℕ → ℕ → ℕ → ℕ → Bool
+within may from to v e = may v e && between from to e
 
 pub record Ready (F H P : ℕ → Bool) (w : List ℕ) (m : ℕ) : Type 0 where
   pub member : m < 32
@@ -68,10 +68,10 @@ pub record Stuck (ok : ℕ → ℕ → Bool) (P S H G : ℕ → Bool) (w : List 
   pub fell : (e : ℕ) → G e ≡ true → H e ≡ true
   pub tried : (e : ℕ) → e < 32 → H e ≡ true → G e ≡ false → Owned S w e
 
-pub record Settled (rows : List ℕ) (F H P : ℕ → Bool) (w : List ℕ) (m : ℕ) (found : Bool) (t : ℕ) (S G : ℕ → Bool) (x : List ℕ) : Type 0 where
-  pub gave : found ≡ true → Gave (reach rows F H) P w m x
+pub record Settled (may : ℕ → ℕ → Bool) (F H P : ℕ → Bool) (w : List ℕ) (m : ℕ) (found : Bool) (t : ℕ) (S G : ℕ → Bool) (x : List ℕ) : Type 0 where
+  pub gave : found ≡ true → Gave (reach may F H) P w m x
   pub filled : found ≡ true → Filled F w x t
-  pub stuck : found ≡ false → Stuck (reach rows F H) P S H G w m
+  pub stuck : found ≡ false → Stuck (reach may F H) P S H G w m
   pub same : found ≡ false → x ≡ w
 
 pub record Blocked (ok : ℕ → ℕ → Bool) (w : List ℕ) (m : ℕ) : Type 0 where

@@ -16,25 +16,25 @@ use Rattle.assign.specs.Order.{earlier}
 use Rattle.assign.specs.Assignment.{Assigns, assigns, Short, Answer}
 
 abbrev pub Sound : Type 0
-Sound = (rows : List ℕ) (first k from to : ℕ) (found : Bool) (w : List ℕ) → Answer rows first k from to found w
-    → found ≡ true → Assigns rows first k from to (slice from to w)
+Sound = (may : ℕ → ℕ → Bool) (first k from to : ℕ) (found : Bool) (w : List ℕ) → Answer may first k from to found w
+    → found ≡ true → Assigns may first k from to (slice from to w)
 
 abbrev pub Complete : Type 0
-Complete = (rows : List ℕ) (first k from to : ℕ) (found : Bool) (w : List ℕ) → Answer rows first k from to found w
-    → (a : List ℕ) → Assigns rows first k from to a → found ≡ true
+Complete = (may : ℕ → ℕ → Bool) (first k from to : ℕ) (found : Bool) (w : List ℕ) → Answer may first k from to found w
+    → (a : List ℕ) → Assigns may first k from to a → found ≡ true
 
 abbrev pub Least : Type 0
-Least = (rows : List ℕ) (first k from to : ℕ) (found : Bool) (w : List ℕ) → Answer rows first k from to found w
-    → (a : List ℕ) → Assigns rows first k from to a → earlier a (slice from to w) ≡ false
+Least = (may : ℕ → ℕ → Bool) (first k from to : ℕ) (found : Bool) (w : List ℕ) → Answer may first k from to found w
+    → (a : List ℕ) → Assigns may first k from to a → earlier a (slice from to w) ≡ false
 
 abbrev pub Unique : Type 0
-Unique = (rows : List ℕ) (first k from to : ℕ) (found found' : Bool) (w w' : List ℕ) → from ≤ to → to ≤ 32
-    → Answer rows first k from to found w → Answer rows first k from to found' w' → (found ≡ found') × (w ≡ w')
+Unique = (may : ℕ → ℕ → Bool) (first k from to : ℕ) (found found' : Bool) (w w' : List ℕ) → from ≤ to → to ≤ 32
+    → Answer may first k from to found w → Answer may first k from to found' w' → (found ≡ found') × (w ≡ w')
 
 abbrev pub Explained : Type 0
-Explained = (rows : List ℕ) (first k from to : ℕ) (found : Bool) (w : List ℕ) → first + k ≤ 32 → from ≤ to → to ≤ 32
-    → Answer rows first k from to found w → (found ≡ false → Short rows first k from to) × (Short rows first k from to → found ≡ false)
+Explained = (may : ℕ → ℕ → Bool) (first k from to : ℕ) (found : Bool) (w : List ℕ) → first + k ≤ 32 → from ≤ to → to ≤ 32
+    → Answer may first k from to found w → (found ≡ false → Short may first k from to) × (Short may first k from to → found ≡ false)
 
 abbrev pub Tested : Type 0
-Tested = (rows : List ℕ) (first k from to : ℕ) (a : List ℕ) → length a ≡ to - from
-    → (Assigns rows first k from to a → assigns rows first k from a ≡ true) × (assigns rows first k from a ≡ true → Assigns rows first k from to a)
+Tested = (may : ℕ → ℕ → Bool) (first k from to : ℕ) (a : List ℕ) → length a ≡ to - from
+    → (Assigns may first k from to a → assigns may first k from a ≡ true) × (assigns may first k from a ≡ true → Assigns may first k from to a)

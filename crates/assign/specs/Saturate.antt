@@ -1,7 +1,7 @@
 -- Assignments as 32 bytes: what the contract of src/saturate.rt cites.
--- fits rows first k from to m e <-> m is in the block, e in the piece, and m may take e (a test)
--- Dealt rows first k from to w  <-> w is an assignment of the piece with 255 at all other places
--- Saturated .. found w          <-> what `saturate` gives
+-- fits may first k from to m e <-> m is in the block, e in the piece, and m may take e (a test)
+-- Dealt may first k from to w  <-> w is an assignment of the piece with 255 at all other places
+-- Saturated .. found w         <-> what `saturate` gives
 -- Assumes nothing.
 use mathlib.Core.Path.{_≡_}
 use mathlib.Core.Logic.{_⊎_}
@@ -13,15 +13,15 @@ use Rattle.masks.specs.Rows.{between, cnt}
 use Rattle.assign.specs.Assignment.{Short}
 use Rattle.assign.specs.Chain.{within}
 
-unfoldable pub fits : List ℕ → ℕ → ℕ → ℕ → ℕ → ℕ → ℕ → Bool
-fits rows first k from to m e = between first (first + k) m && within rows from to m e
+unfoldable pub fits : (ℕ → ℕ → Bool) → ℕ → ℕ → ℕ → ℕ → ℕ → ℕ → Bool
+fits may first k from to m e = between first (first + k) m && within may from to m e
 
-pub record Dealt (rows : List ℕ) (first k from to : ℕ) (w : List ℕ) : Type 0 where
+pub record Dealt (may : ℕ → ℕ → Bool) (first k from to : ℕ) (w : List ℕ) : Type 0 where
   pub size : length w ≡ 32
-  pub right : (e : ℕ) → e < 32 → (getD w e 0 ≡ 255) ⊎ (fits rows first k from to (getD w e 0) e ≡ true)
+  pub right : (e : ℕ) → e < 32 → (getD w e 0 ≡ 255) ⊎ (fits may first k from to (getD w e 0) e ≡ true)
   pub once : (m : ℕ) → first ≤ m → m < first + k → cnt m w ≡ 1
 
-pub record Saturated (rows : List ℕ) (first k from to : ℕ) (found : Bool) (w : List ℕ) : Type 0 where
-  pub dealt : found ≡ true → Dealt rows first k from to w
-  pub short : found ≡ false → Short rows first k from to
+pub record Saturated (may : ℕ → ℕ → Bool) (first k from to : ℕ) (found : Bool) (w : List ℕ) : Type 0 where
+  pub dealt : found ≡ true → Dealt may first k from to w
+  pub short : found ≡ false → Short may first k from to
   pub blank : found ≡ false → w ≡ replicate 32 255

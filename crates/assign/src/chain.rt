@@ -3,7 +3,7 @@ ghost use mathlib.Core.Path.{_≡_};
 ghost use mathlib.Core.Bool.{true};
 ghost use Prim.Native.Nat.{_<_, _≤_};
 ghost use lib.ListN.{set};
-ghost use Rattle.masks.specs.Rows.{bit};
+ghost use Rattle.masks.specs.Rows.{bit, may};
 ghost use Rattle.assign.specs.Chain.{Opened, Ready, Settled, Placed, within};
 use crate::Found;
 use crate::visit::flip;
@@ -70,7 +70,7 @@ fn give(w: [u8; 32], e: u8, m: u8, taken: u8) -> Chain
 // A spare place is taken at once. A held place is tried once in the whole search: whoever comes later finds it tried.
 pub fn settle(rows: &[u32; 32], free: u32, held: u32, w: [u8; 32], m: u8, visited: u32) -> Chain
     requires { ⌜ Ready (bit free) (bit held) (bit visited) w m ⌝ }
-    ensures { λ r. ⌜ Settled (now (rows .entry)) (bit free) (bit held) (bit visited) w m (r .found) (r .taken) (bit (r .seen)) (bit (r .held)) (r .w) ⌝ }
+    ensures { λ r. ⌜ Settled (may (now (rows .entry))) (bit free) (bit held) (bit visited) w m (r .found) (r .taken) (bit (r .seen)) (bit (r .held)) (r .w) ⌝ }
 {
     let row = choices(rows, m);
     let mut seen = with(visited, m);
@@ -105,7 +105,7 @@ pub fn settle(rows: &[u32; 32], free: u32, held: u32, w: [u8; 32], m: u8, visite
 // Gives member m one of the places from .. to - 1, if that can be done while every other member keeps as many as it has.
 pub fn place(rows: &[u32; 32], w: [u8; 32], m: u8, from: u8, to: u8) -> Found
     requires { ⌜ (m < 32) × (from ≤ to) × (to ≤ 32) ⌝ }
-    ensures { λ r. ⌜ Placed (within (now (rows .entry)) from to) w m (r .found) (r .w) ⌝ }
+    ensures { λ r. ⌜ Placed (within (may (now (rows .entry))) from to) w m (r .found) (r .w) ⌝ }
 {
     let open = open_places(w, from, to);
     let c = settle(rows, open.free, open.held, w, m, 0);

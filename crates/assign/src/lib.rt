@@ -2,6 +2,7 @@
 // that member m may take element e.
 ghost use mathlib.Core.Path.{_≡_};
 ghost use Prim.Native.Nat.{_+_, _≤_};
+ghost use Rattle.masks.specs.Rows.{may};
 ghost use Rattle.assign.specs.Assignment.{Answer};
 
 mod visit; // going through a mask, bit by bit
@@ -21,7 +22,7 @@ pub struct Found {
 // The first assignment of the elements from .. to - 1 by the members first .. first + k - 1.
 pub fn first_assignment(rows: &[u32; 32], first: u8, k: u8, from: u8, to: u8) -> Found
     requires { ⌜ (first + k ≤ 32) × (from ≤ to) × (to ≤ 32) ⌝ }
-    ensures { λ r. ⌜ Answer (now (rows .entry)) first k from to (r .found) (r .w) ⌝ }
+    ensures { λ r. ⌜ Answer (may (now (rows .entry))) first k from to (r .found) (r .w) ⌝ }
 {
     if k == 0 {
         let w = [SPARE; 32];

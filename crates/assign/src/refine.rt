@@ -1,7 +1,7 @@
 // From an assignment to the first one in byte order: from left to right each element is given the least member that it can have.
 ghost use mathlib.Core.Path.{_≡_};
 ghost use Prim.Native.Nat.{ℕ, _+_, _<_, _≤_, min};
-ghost use Rattle.masks.specs.Rows.{bit, Stands};
+ghost use Rattle.masks.specs.Rows.{bit, Stands, may};
 ghost use Rattle.assign.specs.Saturate.{Dealt};
 ghost use Rattle.assign.specs.Refine.{Rivals, Candidates, Last, Later, Asks, Exchanged, Improved, Leads};
 use crate::Found;
@@ -24,7 +24,7 @@ fn least(a: u8, b: u8) -> u8
 // The members with a place after e that may take e and are below its byte: who can make the list come earlier.
 fn rivals(rows: &[u32; 32], to: u8, w: [u8; 32], e: u8) -> u32
     requires { ⌜ (e < to) × (to ≤ 32) ⌝ }
-    ensures { λ r. ⌜ Rivals (now (rows .entry)) w e to (bit r) ⌝ }
+    ensures { λ r. ⌜ Rivals (may (now (rows .entry))) w e to (bit r) ⌝ }
 {
     let bound = least(w[e as usize], 32);
     let mut found: u32 = 0;
@@ -45,7 +45,7 @@ fn rivals(rows: &[u32; 32], to: u8, w: [u8; 32], e: u8) -> u32
 // So one search rules out all whose trial would fail.
 fn candidates(rows: &[u32; 32], to: u8, w: [u8; 32], e: u8) -> u32
     requires { ⌜ (e < to) × (to ≤ 32) ⌝ }
-    ensures { λ r. ⌜ Candidates (now (rows .entry)) w e to (bit r) ⌝ }
+    ensures { λ r. ⌜ Candidates (may (now (rows .entry))) w e to (bit r) ⌝ }
 {
     let all = rivals(rows, to, w, e);
     if all == 0 {
@@ -79,7 +79,7 @@ fn place_of(w: [u8; 32], m: u8, to: u8) -> u8
 // Where that cannot be done, w stays as it was.
 fn exchange(rows: &[u32; 32], to: u8, w: [u8; 32], e: u8, m: u8) -> Found
     requires { ⌜ (to ≤ 32) × (m < 32) × Later w m e to ⌝ }
-    ensures { λ r. ⌜ ((first k from : ℕ) → first + k ≤ 32 → Asks (now (rows .entry)) first k from to w e m → Exchanged (now (rows .entry)) first k from to w e m (r .found) (r .w)) ⌝ }
+    ensures { λ r. ⌜ ((first k from : ℕ) → first + k ≤ 32 → Asks (may (now (rows .entry))) first k from to w e m → Exchanged (may (now (rows .entry))) first k from to w e m (r .found) (r .w)) ⌝ }
 {
     let p = place_of(w, m, to);
     let owner = w[e as usize];
@@ -99,7 +99,7 @@ fn exchange(rows: &[u32; 32], to: u8, w: [u8; 32], e: u8, m: u8) -> Found
 // Gives e to the least member that it can have while the places before e stay as they are.
 fn improve(rows: &[u32; 32], to: u8, w: [u8; 32], e: u8) -> [u8; 32]
     requires { ⌜ (e < to) × (to ≤ 32) ⌝ }
-    ensures { λ r. ⌜ ((first k from : ℕ) → first + k ≤ 32 → from ≤ e → Dealt (now (rows .entry)) first k from to w → Improved (now (rows .entry)) first k from to w e r) ⌝ }
+    ensures { λ r. ⌜ ((first k from : ℕ) → first + k ≤ 32 → from ≤ e → Dealt (may (now (rows .entry))) first k from to w → Improved (may (now (rows .entry))) first k from to w e r) ⌝ }
 {
     let mut left = candidates(rows, to, w, e);
     while left != 0 {
@@ -117,7 +117,7 @@ fn improve(rows: &[u32; 32], to: u8, w: [u8; 32], e: u8) -> [u8; 32]
 // The first assignment, from any.
 pub fn refine(rows: &[u32; 32], from: u8, to: u8, w: [u8; 32]) -> [u8; 32]
     requires { ⌜ (from ≤ to) × (to ≤ 32) ⌝ }
-    ensures { λ r. ⌜ ((first k : ℕ) → first + k ≤ 32 → Dealt (now (rows .entry)) first k from to w → Leads (now (rows .entry)) first k from to r to) ⌝ }
+    ensures { λ r. ⌜ ((first k : ℕ) → first + k ≤ 32 → Dealt (may (now (rows .entry))) first k from to w → Leads (may (now (rows .entry))) first k from to r to) ⌝ }
 {
     let mut x = w;
     let mut e = from;

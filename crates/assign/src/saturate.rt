@@ -1,6 +1,7 @@
 // An assignment of the piece by the block, if there is one: the members are served in turn.
 ghost use mathlib.Core.Path.{_≡_};
 ghost use Prim.Native.Nat.{_+_, _≤_};
+ghost use Rattle.masks.specs.Rows.{may};
 ghost use Rattle.assign.specs.Saturate.{Saturated};
 use crate::Found;
 use crate::SPARE;
@@ -11,7 +12,7 @@ use masks::with;
 
 pub fn saturate(rows: &[u32; 32], first: u8, k: u8, from: u8, to: u8) -> Found
     requires { ⌜ (first + k ≤ 32) × (from ≤ to) × (to ≤ 32) ⌝ }
-    ensures { λ r. ⌜ Saturated (now (rows .entry)) first k from to (r .found) (r .w) ⌝ }
+    ensures { λ r. ⌜ Saturated (may (now (rows .entry))) first k from to (r .found) (r .w) ⌝ }
 {
     let mut w = [SPARE; 32];
     let open = open_places(w, from, to);

@@ -54,23 +54,23 @@ bytes n w v h l q = let x = length-take n w in ap (λ (y : List ℕ). length y) 
 
 -- ---- the claims
 pub uniqueCut : UniqueCut
-uniqueCut rows bs n found found' w w' b c = best-unique b c
+uniqueCut may bs n found found' w w' b c = best-unique b c
 
 pub uniqueFilling : UniqueFilling
-uniqueFilling rows k n found found' w w' b c = best-unique b c
+uniqueFilling may k n found found' w w' b c = best-unique b c
 
 pub cutPasses : CutPasses
-cutPasses rows bs n found r w v h b f q p =
-    let c : Cuts rows bs 0 n v = subst (λ (x : List ℕ). Cuts rows bs 0 n x) (sym q) (b .best f .holds) in
-    passing-holds p (subst (λ (m : ℕ). Cuts rows bs 0 m v) (sym (bytes n w v h (b .size) q)) c)
+cutPasses may bs n found r w v h b f q p =
+    let c : Cuts may bs 0 n v = subst (λ (x : List ℕ). Cuts may bs 0 n x) (sym q) (b .best f .holds) in
+    passing-holds p (subst (λ (m : ℕ). Cuts may bs 0 m v) (sym (bytes n w v h (b .size) q)) c)
 
 pub cutFound : CutFound
-cutFound rows bs n found w v b l p = best-found v b (subst (λ (m : ℕ). Cuts rows bs 0 m v) l (p .passed refl))
+cutFound may bs n found w v b l p = best-found v b (subst (λ (m : ℕ). Cuts may bs 0 m v) l (p .passed refl))
 
 pub fillingPasses : FillingPasses
-fillingPasses rows k n found r w v h b f q p =
-    let c : Fills rows k n v = subst (λ (x : List ℕ). Fills rows k n x) (sym q) (b .best f .holds) in
-    passing-holds p (subst (λ (m : ℕ). Fills rows k m v) (sym (bytes n w v h (b .size) q)) c)
+fillingPasses may k n found r w v h b f q p =
+    let c : Fills may k n v = subst (λ (x : List ℕ). Fills may k n x) (sym q) (b .best f .holds) in
+    passing-holds p (subst (λ (m : ℕ). Fills may k m v) (sym (bytes n w v h (b .size) q)) c)
 
 pub fillingFound : FillingFound
-fillingFound rows k n found w v b l p = best-found v b (subst (λ (m : ℕ). Fills rows k m v) l (p .passed refl))
+fillingFound may k n found w v b l p = best-found v b (subst (λ (m : ℕ). Fills may k m v) l (p .passed refl))

@@ -1,7 +1,7 @@
 -- Fillings: the members that a filling leaves, and the elements that are added for them. Assumes nothing.
 use mathlib.Core.Path.{_≡_, refl, sym, ap, ap₂, _∙_, subst}
 use mathlib.Core.Logic.{_⊎_, ⊎-elim}
-use mathlib.Core.Bool.{Bool, true, false, not, _||_}
+use mathlib.Core.Bool.{Bool, true, false, not, _||_, or-false}
 use mathlib.Core.List.{List, [], _∷_, _++_}
 use Prim.Native.Nat.{ℕ, zero, suc, _+_, _-_, _≤_, _<_, suc-le-suc}
 use native.Mathlib.Omega.{arith}
@@ -10,7 +10,7 @@ use lib.ListN.{length, getD, set, take, drop, replicate, length-append, length-t
 use lib.Seq.{take-take, getD-take, getD-append-add, getD-set-same, getD-set-other, ext-getD}
 use borrow.Author.Tests.{eq-eqb, ne-eqb}
 use Rattle.assign.specs.Order.{earlier, First}
-use Rattle.masks.specs.Rows.{bit, may, between, oneIf, cnt, count}
+use Rattle.masks.specs.Rows.{bit, between, oneIf, cnt, count, may}
 use Rattle.assign.specs.Assignment.{takes, Assigns, Answer}
 use Rattle.masks.proofs.Lemmas.{same?, below?, clash, not-so, one-of, or-left, or-right, between-in, between-from, hit, miss}
 use Rattle.assign.proofs.Laws.{earlier-append-left}
@@ -196,28 +196,28 @@ full-places a k size once e l = ⊎-elim
     (below? (getD a e 0) k)
 
 -- ---- a filling and the members that it leaves
-module _ {rows padded : List ℕ} {k n : ℕ} (p : Padded rows n k padded) (few : k ≤ 32) where
-  pub fills-assigns : {v : List ℕ} → Fills rows k n v → Assigns padded 0 k 0 k (v ++ left v k)
+module _ {may : ℕ → ℕ → Bool} {padded : ℕ → ℕ → Bool} {k n : ℕ} (p : Padded may n k padded) (few : k ≤ 32) where
+  pub fills-assigns : {v : List ℕ} → Fills may k n v → Assigns padded 0 k 0 k (v ++ left v k)
   fills-assigns {v} f =
       let size = f .size in
       let sum = left-size v k (λ e l. f .member e (omega arith)) (f .once) in
       let long = length-append v (left v k) in
-      let right : (x i : ℕ) → x < k → (may rows x i || between n k i) ≡ true → takes padded 0 k (0 + i) x ≡ true = λ x i l h.
+      let right : (x i : ℕ) → x < k → i < k → (may x i || between n k i) ≡ true → takes padded 0 k (0 + i) x ≡ true = λ x i l u h.
       takes-member padded 0 k (0 + i) x (between-in 0 (0 + k) x (omega arith) (omega arith))
-      (subst (λ (j : ℕ). may padded x j ≡ true) (let q : i ≡ 0 + i = omega arith in q) (p .each x i l ∙ h)) in
+      (subst (λ (j : ℕ). padded x j ≡ true) (let q : i ≡ 0 + i = omega arith in q) (p .each x i l u ∙ h)) in
       record {
         size = omega arith;
         right = λ i l. ⊎-elim
             (λ (h : i < n).
             let q : getD (v ++ left v k) i 0 ≡ getD v i 0 = List·getD-append v (left v k) 0 i (omega arith) in
             subst (λ (x : ℕ). takes padded 0 k (0 + i) x ≡ true) (sym q)
-            (right (getD v i 0) i (f .member i h) (or-left (may rows (getD v i 0) i) (between n k i) (f .right i h))))
+            (right (getD v i 0) i (f .member i h) (omega arith) (or-left (may (getD v i 0) i) (between n k i) (f .right i h))))
             (λ (h : n ≤ i).
             let j = i - n in
             let z : i ≡ length v + j = omega arith in
             let q : getD (v ++ left v k) i 0 ≡ getD (left v k) j 0 = ap (λ (d : ℕ). getD (v ++ left v k) d 0) z ∙ getD-append-add v (left v k) j 0 in
             subst (λ (x : ℕ). takes padded 0 k (0 + i) x ≡ true) (sym q)
-            (right (getD (left v k) j 0) i (left-below v k j (omega arith)) (or-right (may rows (getD (left v k) j 0) i) (between n k i) (between-in n k i h (omega arith)))))
+            (right (getD (left v k) j 0) i (left-below v k j (omega arith)) (omega arith) (or-right (may (getD (left v k) j 0) i) (between n k i) (between-in n k i h (omega arith)))))
             (below? i n);
         once = λ m _ l.
             let a = cnt-append m v (left v k) in
@@ -228,7 +228,7 @@ module _ {rows padded : List ℕ} {k n : ℕ} (p : Padded rows n k padded) (few 
             (same? (cnt m v) 0);
       }
 
-  pub assigns-fills : {a : List ℕ} → n ≤ k → Assigns padded 0 k 0 k a → Fills rows k n (take n a)
+  pub assigns-fills : {a : List ℕ} → n ≤ k → Assigns padded 0 k 0 k a → Fills may k n (take n a)
   assigns-fills {a} l g =
       let size = g .size in
       let low : (e : ℕ) → e < k → getD a e 0 < k = full-places a k (omega arith) (λ m h. g .once m (omega arith) (omega arith)) in
@@ -241,12 +241,12 @@ module _ {rows padded : List ℕ} {k n : ℕ} (p : Padded rows n k padded) (few 
             let x = getD a e 0 in
             let y = low e (omega arith) in
             let t : takes padded 0 k e x ≡ true = subst (λ (j : ℕ). takes padded 0 k j x ≡ true) (let q : 0 + e ≡ e = omega arith in q) (g .right e (omega arith)) in
-            let m : may padded x e ≡ true = ⊎-elim (λ (z : x ≡ 255). absurd (omega arith)) (λ (z : (between 0 (0 + k) x ≡ true) × (may padded x e ≡ true)). z .1) (takes-inv padded 0 k e x t) in
-            let r : may rows x e ≡ true = ⊎-elim
-            (λ (z : may rows x e ≡ true). z)
+            let m : padded x e ≡ true = ⊎-elim (λ (z : x ≡ 255). absurd (omega arith)) (λ (z : (between 0 (0 + k) x ≡ true) × (padded x e ≡ true)). z .1) (takes-inv padded 0 k e x t) in
+            let r : may x e ≡ true = ⊎-elim
+            (λ (z : may x e ≡ true). z)
             (λ (z : between n k e ≡ true). let b = between-from n k e z in absurd (omega arith))
-            (one-of (may rows x e) (between n k e) (sym (p .each x e y) ∙ m)) in
-            subst (λ (j : ℕ). may rows j e ≡ true) (sym (at e h)) r;
+            (one-of (may x e) (between n k e) (sym (p .each x e y (omega arith)) ∙ m)) in
+            subst (λ (j : ℕ). may j e ≡ true) (sym (at e h)) r;
         once = λ m h.
             let c = cnt-append m (take n a) (drop n a) in
             let w = ap (λ (x : List ℕ). cnt m x) (take-append-drop n a) in
@@ -255,11 +255,11 @@ module _ {rows padded : List ℕ} {k n : ℕ} (p : Padded rows n k padded) (few 
       }
 
   -- the first bytes of the first assignment with the pad
-  pub filling-first : (w : List ℕ) → n ≤ k → First (Assigns padded 0 k 0 k) (take k w) → First (Fills rows k n) (take n w)
+  pub filling-first : (w : List ℕ) → n ≤ k → First (Assigns padded 0 k 0 k) (take k w) → First (Fills may k n) (take n w)
   filling-first w l f =
       let q : take n (take k w) ≡ take n w = take-take n k w l in
       let whole : take k w ≡ take n w ++ drop n (take k w) = sym (take-append-drop n (take k w)) ∙ ap (λ (x : List ℕ). x ++ drop n (take k w)) q in
-      let holds : Fills rows k n (take n w) = subst (λ (x : List ℕ). Fills rows k n x) q (assigns-fills l (f .holds)) in
+      let holds : Fills may k n (take n w) = subst (λ (x : List ℕ). Fills may k n x) q (assigns-fills l (f .holds)) in
       record {
         holds = holds;
         least = λ v g. not-so (earlier v (take n w)) (λ e. clash
@@ -269,8 +269,8 @@ module _ {rows padded : List ℕ} {k n : ℕ} (p : Padded rows n k padded) (few 
 
 -- ---- what `first_filling` gives
 -- more elements than members
-pub filling-crowded : {rows : List ℕ} {k n : ℕ} → n ≤ 32 → k < n → Filling rows k n false (replicate 32 255)
-filling-crowded {rows} {k} {n} h l = record {
+pub filling-crowded : {may : ℕ → ℕ → Bool} {k n : ℕ} → n ≤ 32 → k < n → Filling may k n false (replicate 32 255)
+filling-crowded {may} {k} {n} h l = record {
   best = λ t. absurd (clash t refl);
   none = λ _ v f.
       let size = f .size in
@@ -288,13 +288,13 @@ splice-take {a} {b} {r} {n} h la s =
     let y = length-take n a in
     ext-getD 0 (take n r) (take n a) (omega arith) (λ i l. getD-take n r i 0 (omega arith) ∙ s .inside i (omega arith) (omega arith) ∙ sym (getD-take n a i 0 (omega arith)))
 
-pub filling-answer : {rows padded : List ℕ} {k n : ℕ} {found : Bool} {w r : List ℕ} → k ≤ 32 → n ≤ k → Padded rows n k padded → Answer padded 0 k 0 k found w
-    → Spliced w (replicate 32 255) 0 n r → Filling rows k n found r
-filling-answer {rows} {padded} {k} {n} {found} {w} {r} few l p a s =
+pub filling-answer : {may : ℕ → ℕ → Bool} {padded : ℕ → ℕ → Bool} {k n : ℕ} {found : Bool} {w r : List ℕ} → k ≤ 32 → n ≤ k → Padded may n k padded → Answer padded 0 k 0 k found w
+    → Spliced w (replicate 32 255) 0 n r → Filling may k n found r
+filling-answer {may} {padded} {k} {n} {found} {w} {r} few l p a s =
     let long = s .size in
     let spare : (i : ℕ) → i < 32 → _≡_ {A = ℕ} (getD (replicate 32 255) i 0) 255 = λ i h. getD-replicate {A = ℕ} 32 i 255 0 h in
     record {
-      best = λ t. subst (λ (x : List ℕ). First (Fills rows k n) x) (sym (splice-take (omega arith) (a .size) s)) (filling-first p few w l (a .best t));
+      best = λ t. subst (λ (x : List ℕ). First (Fills may k n) x) (sym (splice-take (omega arith) (a .size) s)) (filling-first p few w l (a .best t));
       none = λ f v g. a .none f (v ++ left v k) (fills-assigns p few g);
       size = s .size;
       outside = λ i h z. s .after i h ∙ spare i z;

@@ -8,7 +8,7 @@ use native.Mathlib.Omega.{arith}
 use lib.ListN.{length, getD, set, replicate, length-set, length-replicate, getD-replicate}
 use lib.Seq.{slice, slice-cons, slice-empty, length-slice, getD-set-same, getD-set-other, ext-getD}
 use Rattle.assign.specs.Order.{earlier, choose, First, Joins}
-use Rattle.masks.specs.Rows.{between, may, cnt}
+use Rattle.masks.specs.Rows.{between, cnt}
 use Rattle.assign.specs.Assignment.{takes, Assigns, Answer}
 use Rattle.masks.proofs.Lemmas.{same?, below?, clash, not-so, between-in, between-from, between-to, hit, miss}
 use Rattle.assign.proofs.Laws.{earlier-irreflexive, first-same, first-joins, none-joins-left, none-joins-right, first-union, first-union-left, first-union-right}
@@ -74,22 +74,22 @@ kept-union {P} {Q} {from} {to} {a} {b} p q (sooner ta tb e) = record {
 
 -- ---- a block with no members
 -- every assignment is 255 throughout
-pub spare-bytes : {rows : List ℕ} {first k from to : ℕ} {v : List ℕ} → k ≡ 0 → Assigns rows first k from to v → (i : ℕ) → i < length v → getD v i 0 ≡ 255
-spare-bytes {rows} {first} {k} {from} {to} {v} z a i l = ⊎-elim
+pub spare-bytes : {may : ℕ → ℕ → Bool} {first k from to : ℕ} {v : List ℕ} → k ≡ 0 → Assigns may first k from to v → (i : ℕ) → i < length v → getD v i 0 ≡ 255
+spare-bytes {may} {first} {k} {from} {to} {v} z a i l = ⊎-elim
     (λ (q : getD v i 0 ≡ 255). q)
-    (λ (q : (between first (first + k) (getD v i 0) ≡ true) × (may rows (getD v i 0) (from + i) ≡ true)).
+    (λ (q : (between first (first + k) (getD v i 0) ≡ true) × (may (getD v i 0) (from + i) ≡ true)).
     let x = between-from first (first + k) (getD v i 0) (q .0) in
     let y = between-to first (first + k) (getD v i 0) (q .0) in
     absurd (omega arith))
-    (takes-inv rows first k (from + i) (getD v i 0) (a .right i l))
+    (takes-inv may first k (from + i) (getD v i 0) (a .right i l))
 
-spare-first : {rows : List ℕ} {first k from to : ℕ} (w : List ℕ) → k ≡ 0 → from ≤ to → to ≤ 32 → length w ≡ 32 → ((i : ℕ) → from ≤ i → i < to → getD w i 0 ≡ 255)
-    → First (Assigns rows first k from to) (slice from to w)
-spare-first {rows} {first} {k} {from} {to} w z f t long all =
+spare-first : {may : ℕ → ℕ → Bool} {first k from to : ℕ} (w : List ℕ) → k ≡ 0 → from ≤ to → to ≤ 32 → length w ≡ 32 → ((i : ℕ) → from ≤ i → i < to → getD w i 0 ≡ 255)
+    → First (Assigns may first k from to) (slice from to w)
+spare-first {may} {first} {k} {from} {to} w z f t long all =
     let n = length-slice from to w (omega arith) in
     let at : (i : ℕ) → i < to - from → getD (slice from to w) i 0 ≡ 255 = λ i l. slice-at from to w i l ∙ all (from + i) (omega arith) (omega arith) in
     record {
-      holds = record { size = n; right = λ i l. takes-spare rows first k (from + i) (getD (slice from to w) i 0) (at i (omega arith)); once = λ m l h. absurd (omega arith) };
+      holds = record { size = n; right = λ i l. takes-spare may first k (from + i) (getD (slice from to w) i 0) (at i (omega arith)); once = λ m l h. absurd (omega arith) };
       least = λ v a.
           let size = a .size in
           let same : v ≡ slice from to w = ext-getD 0 v (slice from to w) (size ∙ sym n) (λ i l. spare-bytes z a i l ∙ sym (at i (omega arith))) in
@@ -97,23 +97,23 @@ spare-first {rows} {first} {k} {from} {to} w z f t long all =
     }
 
 -- ---- a block with one member, on one element
-one-member : {rows : List ℕ} {first k from to : ℕ} (v : List ℕ) → k ≡ 1 → to ≡ from + 1 → first < 32 → Assigns rows first k from to v
-    → (v ≡ first ∷ []) × (may rows first from ≡ true)
+one-member : {may : ℕ → ℕ → Bool} {first k from to : ℕ} (v : List ℕ) → k ≡ 1 → to ≡ from + 1 → first < 32 → Assigns may first k from to v
+    → (v ≡ first ∷ []) × (may first from ≡ true)
 unfolding cnt
 one-member [] o e l a = let n = a .size in absurd (omega arith)
-one-member {rows} {first} {k} {from} {to} (x ∷ []) o e l a =
+one-member {may} {first} {k} {from} {to} (x ∷ []) o e l a =
     let c = a .once first (omega arith) (omega arith) in
     let q : x ≡ first = ⊎-elim (λ (q : x ≡ first). q) (λ (q : x ≡ first → ⊥). let z = miss x first q in absurd (omega arith)) (same? x first) in
-    let t : takes rows first k from first ≡ true = subst (λ (j : ℕ). takes rows first k j first ≡ true) (let z : from + 0 ≡ from = omega arith in z)
-    (subst (λ (y : ℕ). takes rows first k (from + 0) y ≡ true) q (a .right 0 (omega arith))) in (
+    let t : takes may first k from first ≡ true = subst (λ (j : ℕ). takes may first k j first ≡ true) (let z : from + 0 ≡ from = omega arith in z)
+    (subst (λ (y : ℕ). takes may first k (from + 0) y ≡ true) q (a .right 0 (omega arith))) in (
       ap (λ (y : ℕ). y ∷ []) q,
-      ⊎-elim (λ (z : first ≡ 255). absurd (omega arith)) (λ (z : (between first (first + k) first ≡ true) × (may rows first from ≡ true)). z .1) (takes-inv rows first k from first t),
+      ⊎-elim (λ (z : first ≡ 255). absurd (omega arith)) (λ (z : (between first (first + k) first ≡ true) × (may first from ≡ true)). z .1) (takes-inv may first k from first t),
     )
 one-member (x ∷ y ∷ v) o e l a = let n = a .size in absurd (omega arith)
 
-one-first : {rows : List ℕ} {first k from to : ℕ} → k ≡ 1 → to ≡ from + 1 → first < 32 → may rows first from ≡ true → First (Assigns rows first k from to) (first ∷ [])
+one-first : {may : ℕ → ℕ → Bool} {first k from to : ℕ} → k ≡ 1 → to ≡ from + 1 → first < 32 → may first from ≡ true → First (Assigns may first k from to) (first ∷ [])
 unfolding cnt
-one-first {rows} {first} {k} {from} {to} o e l m = record {
+one-first {may} {first} {k} {from} {to} o e l m = record {
   holds = record {
     size = omega arith;
     right = at;
@@ -122,30 +122,30 @@ one-first {rows} {first} {k} {from} {to} o e l m = record {
   least = λ v a. ap (λ (x : List ℕ). earlier x (first ∷ [])) (one-member v o e l a .0) ∙ earlier-irreflexive (first ∷ []);
 }
   where
-    at : (i : ℕ) → i < length (first ∷ []) → takes rows first k (from + i) (getD (first ∷ []) i 0) ≡ true
-    at zero h = takes-member rows first k (from + 0) first (between-in first (first + k) first (omega arith) (omega arith))
-        (subst (λ (j : ℕ). may rows first j ≡ true) (let z : from ≡ from + 0 = omega arith in z) m)
+    at : (i : ℕ) → i < length (first ∷ []) → takes may first k (from + i) (getD (first ∷ []) i 0) ≡ true
+    at zero h = takes-member may first k (from + 0) first (between-in first (first + k) first (omega arith) (omega arith))
+        (subst (λ (j : ℕ). may first j ≡ true) (let z : from ≡ from + 0 = omega arith in z) m)
     at (suc i) h = absurd (omega arith)
 
 -- ---- a piece before a list
-module _ {rows : List ℕ} {b : Block} {Q : List ℕ → Type 0} {from to n : ℕ} {rest : Suffix}
+module _ {may : ℕ → ℕ → Bool} {b : Block} {Q : List ℕ → Type 0} {from to n : ℕ} {rest : Suffix}
     (f : from ≤ to) (t : to ≤ n) (end : n ≤ 32) (enough : b .k + b .min ≤ to - from) (few : to - from ≤ b .k + b .max) (g : Given Q to n rest) where
-  pub joined-absent : rest .there ≡ false → Given (Joins (Takes rows b from to) Q) from n rest
+  pub joined-absent : rest .there ≡ false → Given (Joins (Takes may b from to) Q) from n rest
   joined-absent h = given-none h (g .blank h) (none-joins-right (g .none h))
 
-  pub joined-none : {found : Bool} {w : List ℕ} → Answer rows (b .first) (b .k) from to found w → found ≡ false
-      → Given (Joins (Takes rows b from to) Q) from n (record { there = false; w = w })
+  pub joined-none : {found : Bool} {w : List ℕ} → Answer may (b .first) (b .k) from to found w → found ≡ false
+      → Given (Joins (Takes may b from to) Q) from n (record { there = false; w = w })
   joined-none a h = given-none refl (a .blank h) (none-joins-left (λ v x. a .none h v (x .assigned)))
 
   -- the first assignment, as what the block takes
-  first-takes : {a : List ℕ} → First (Assigns rows (b .first) (b .k) from to) a → First (Takes rows b from to) a
+  first-takes : {a : List ℕ} → First (Assigns may (b .first) (b .k) from to) a → First (Takes may b from to) a
   first-takes = first-same (λ v x. record { assigned = x; enough = enough; few = few }) (λ v x. x .assigned)
 
   -- the first list that the block takes, before the rest
-  joined-first : {w v : List ℕ} → rest .there ≡ true → length w ≡ 32 → First (Takes rows b from to) (slice from to w) → Spliced w (rest .w) from to v
-      → Given (Joins (Takes rows b from to) Q) from n (record { there = true; w = v })
+  joined-first : {w v : List ℕ} → rest .there ≡ true → length w ≡ 32 → First (Takes may b from to) (slice from to w) → Spliced w (rest .w) from to v
+      → Given (Joins (Takes may b from to) Q) from n (record { there = true; w = v })
   joined-first {w} {v} h long p s = record {
-    best = λ _. subst (λ (x : List ℕ). First (Joins (Takes rows b from to) Q) x) (sym (splice-joins n f t end long (g .size) s))
+    best = λ _. subst (λ (x : List ℕ). First (Joins (Takes may b from to) Q) x) (sym (splice-joins n f t end long (g .size) s))
         (first-joins (to - from) (λ x k. k .assigned .size) p (g .best h));
     none = λ x. absurd (clash refl x);
     size = s .size;
@@ -159,21 +159,21 @@ module _ {rows : List ℕ} {b : Block} {Q : List ℕ → Type 0} {from to n : �
     blank = λ x. absurd (clash refl x);
   }
 
-  pub joined-found : {found : Bool} {w v : List ℕ} → rest .there ≡ true → Answer rows (b .first) (b .k) from to found w → found ≡ true → Spliced w (rest .w) from to v
-      → Given (Joins (Takes rows b from to) Q) from n (record { there = true; w = v })
+  pub joined-found : {found : Bool} {w v : List ℕ} → rest .there ≡ true → Answer may (b .first) (b .k) from to found w → found ≡ true → Spliced w (rest .w) from to v
+      → Given (Joins (Takes may b from to) Q) from n (record { there = true; w = v })
   joined-found h a y s = joined-first h (a .size) (first-takes (a .best y)) s
 
   -- a block with no members takes only 255, which stands before the rest already
-  pub joined-spare : b .k ≡ 0 → rest .there ≡ true → Given (Joins (Takes rows b from to) Q) from n rest
+  pub joined-spare : b .k ≡ 0 → rest .there ≡ true → Given (Joins (Takes may b from to) Q) from n rest
   joined-spare z h =
       let whole : rest ≡ record { there = true; w = rest .w } = ap (λ (x : Bool). record { there = x; w = rest .w }) h in
-      subst (λ (x : Suffix). Given (Joins (Takes rows b from to) Q) from n x) (sym whole)
+      subst (λ (x : Suffix). Given (Joins (Takes may b from to) Q) from n x) (sym whole)
       (joined-first h (g .size) (first-takes (spare-first (rest .w) z f (omega arith) (g .size) (λ i l k.
       g .outside i (omega arith) (not-so (between to n i) (λ y. let x = between-from to n i y in omega arith)))))
       (record { size = g .size; inside = λ i l k. refl; before = λ i l. refl; after = λ i l. refl }))
 
   -- one member on one element
-  pub joined-single : {r : Suffix} → b .k ≡ 1 → to ≡ from + 1 → b .first < 32 → rest .there ≡ true → Single rows (b .first) from rest r → Given (Joins (Takes rows b from to) Q) from n r
+  pub joined-single : {r : Suffix} → b .k ≡ 1 → to ≡ from + 1 → b .first < 32 → rest .there ≡ true → Single may (b .first) from rest r → Given (Joins (Takes may b from to) Q) from n r
   joined-single o e l h (fits m) =
       let w = set (rest .w) from (b .first) in
       let size = g .size in
@@ -181,7 +181,7 @@ module _ {rows : List ℕ} {b : Block} {Q : List ℕ → Type 0} {from to n : �
       let piece : slice from to w ≡ b .first ∷ [] = slice-cons from to w 0 (omega arith) (omega arith)
       ∙ ap₂ (λ (x : ℕ) (y : List ℕ). x ∷ y) (getD-set-same (rest .w) from (b .first) 0 (omega arith))
       (ap (λ (j : ℕ). slice (suc from) j w) (let z : to ≡ suc from = omega arith in z) ∙ slice-empty (suc from) w) in
-      joined-first h long (subst (λ (x : List ℕ). First (Takes rows b from to) x) (sym piece) (first-takes (one-first o e l m)))
+      joined-first h long (subst (λ (x : List ℕ). First (Takes may b from to) x) (sym piece) (first-takes (one-first o e l m)))
       (record {
         size = long;
         inside = λ i x y. refl;

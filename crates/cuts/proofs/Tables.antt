@@ -1,7 +1,7 @@
 -- The table, one block more in front at a time. Assumes nothing.
 use mathlib.Core.Path.{_≡_, refl, sym, ap, ap₂, _∙_, subst}
 use mathlib.Core.Logic.{_⊎_, inl, inr, ⊎-elim}
-use mathlib.Core.Bool.{true, false}
+use mathlib.Core.Bool.{Bool, true, false}
 use mathlib.Core.List.{List, [], _∷_, _++_}
 use Prim.Native.Nat.{ℕ, zero, suc, _+_, _-_, _≤_, _<_, min, suc-le-suc}
 use native.Mathlib.Numerals.{add-one}
@@ -26,10 +26,10 @@ use Rattle.cuts.proofs.Laws.{cuts-order}
 abbrev pub empty : Suffix
 empty = record { there = true; w = replicate 32 255 }
 
-given-end : (rows : List ℕ) (n : ℕ) → n ≤ 32 → Given (Cuts rows [] n n) n n empty
+given-end : (may : ℕ → ℕ → Bool) (n : ℕ) → n ≤ 32 → Given (Cuts may [] n n) n n empty
 unfolding Cuts earlier
-given-end rows n h = record {
-  best = λ _. subst (λ (x : List ℕ). First (Cuts rows [] n n) x) (sym (slice-empty n (replicate 32 255)))
+given-end may n h = record {
+  best = λ _. subst (λ (x : List ℕ). First (Cuts may [] n n) x) (sym (slice-empty n (replicate 32 255)))
       (record { holds = (refl, refl); least = λ v k. ap (λ (x : List ℕ). earlier x []) (k .1) });
   none = λ x. absurd (clash refl x);
   size = length-replicate {A = ℕ} 32 255;
@@ -37,60 +37,60 @@ given-end rows n h = record {
   blank = λ x. absurd (clash refl x);
 }
 
-never-empty : (rows : List ℕ) (p n : ℕ) → (p ≡ n → ⊥) → (v : List ℕ) → Cuts rows [] p n v → ⊥
+never-empty : (may : ℕ → ℕ → Bool) (p n : ℕ) → (p ≡ n → ⊥) → (v : List ℕ) → Cuts may [] p n v → ⊥
 unfolding Cuts
-never-empty rows p n d v h = d (h .0)
+never-empty may p n d v h = d (h .0)
 
-pub tabled-last : (n : ℕ) {t : List ℕ} → n ≤ 32 → Written n empty (replicate 1089 255) t → (rows : List ℕ) (low high : ℕ) → Tabled rows [] n low high t
-tabled-last n {t} h w rows low high = record {
+pub tabled-last : (n : ℕ) {t : List ℕ} → n ≤ 32 → Written n empty (replicate 1089 255) t → (may : ℕ → ℕ → Bool) (low high : ℕ) → Tabled may [] n low high t
+tabled-last n {t} h w may low high = record {
   size = w .size;
   at = λ p _ _ l. ⊎-elim
       (λ (q : p ≡ n).
-      subst (λ (x : ℕ). Given (Cuts rows [] x n) x n (entry t x)) (sym q)
-      (subst (λ (x : Suffix). Given (Cuts rows [] n n) n n x) (sym (w .here)) (given-end rows n h)))
+      subst (λ (x : ℕ). Given (Cuts may [] x n) x n (entry t x)) (sym q)
+      (subst (λ (x : Suffix). Given (Cuts may [] n n) n n x) (sym (w .here)) (given-end may n h)))
       (λ (q : p ≡ n → ⊥).
       let e : entry t p ≡ nothing = w .other p (omega arith) q ∙ blank-entry p (omega arith) in
-      subst (λ (x : Suffix). Given (Cuts rows [] p n) p n x) (sym e) (given-none refl refl (never-empty rows p n q)))
+      subst (λ (x : Suffix). Given (Cuts may [] p n) p n x) (sym e) (given-none refl refl (never-empty may p n q)))
       (same? p n);
 }
 
 -- ---- one place: over the ends of the first piece
-abbrev pub onward : List ℕ → List Block → ℕ → ℕ → List ℕ → Type 0
-onward rows bs n mid v = Cuts rows bs mid n v
+abbrev pub onward : (ℕ → ℕ → Bool) → List Block → ℕ → ℕ → List ℕ → Type 0
+onward may bs n mid v = Cuts may bs mid n v
 
-module _ (rows : List ℕ) (b : Block) (bs : List Block) (from n : ℕ) where
-  before-none : (stop : ℕ) → stop ≤ from + b .k + b .min → (v : List ℕ) → CutBefore rows b (onward rows bs n) from n stop v → ⊥
+module _ (may : ℕ → ℕ → Bool) (b : Block) (bs : List Block) (from n : ℕ) where
+  before-none : (stop : ℕ) → stop ≤ from + b .k + b .min → (v : List ℕ) → CutBefore may b (onward may bs n) from n stop v → ⊥
   before-none stop l v c =
       let x = c .early in
       let y = c .after in
       let z = c .parts .onLeft .enough in
       omega arith
 
-  pub place-start : (stop : ℕ) → stop ≤ from + b .k + b .min → Given (CutBefore rows b (onward rows bs n) from n stop) from n nothing
+  pub place-start : (stop : ℕ) → stop ≤ from + b .k + b .min → Given (CutBefore may b (onward may bs n) from n stop) from n nothing
   place-start stop l = given-none refl refl (before-none stop l)
 
-  before-more : (stop : ℕ) → from ≤ stop → stop ≤ n → (v : List ℕ) → CutBefore rows b (onward rows bs n) from n stop v ⊎ Joins (Takes rows b from stop) (onward rows bs n stop) v → CutBefore rows b (onward rows bs n) from n (stop + 1) v
+  before-more : (stop : ℕ) → from ≤ stop → stop ≤ n → (v : List ℕ) → CutBefore may b (onward may bs n) from n stop v ⊎ Joins (Takes may b from stop) (onward may bs n stop) v → CutBefore may b (onward may bs n) from n (stop + 1) v
   before-more stop f l v = ⊎-elim
-      (λ (c : CutBefore rows b (onward rows bs n) from n stop v). let x = c .early in record { mid = c .mid; early = omega arith; after = c .after; inside = c .inside; parts = c .parts })
-      (λ (j : Joins (Takes rows b from stop) (onward rows bs n stop) v). record { mid = stop; early = omega arith; after = f; inside = l; parts = j })
+      (λ (c : CutBefore may b (onward may bs n) from n stop v). let x = c .early in record { mid = c .mid; early = omega arith; after = c .after; inside = c .inside; parts = c .parts })
+      (λ (j : Joins (Takes may b from stop) (onward may bs n stop) v). record { mid = stop; early = omega arith; after = f; inside = l; parts = j })
 
-  before-split : (stop : ℕ) (v : List ℕ) → CutBefore rows b (onward rows bs n) from n (stop + 1) v → CutBefore rows b (onward rows bs n) from n stop v ⊎ Joins (Takes rows b from stop) (onward rows bs n stop) v
+  before-split : (stop : ℕ) (v : List ℕ) → CutBefore may b (onward may bs n) from n (stop + 1) v → CutBefore may b (onward may bs n) from n stop v ⊎ Joins (Takes may b from stop) (onward may bs n stop) v
   before-split stop v c =
       let x = c .early in
       ⊎-elim
-      (λ (q : c .mid ≡ stop). inr (subst (λ (m : ℕ). Joins (Takes rows b from m) (onward rows bs n m) v) q (c .parts)))
+      (λ (q : c .mid ≡ stop). inr (subst (λ (m : ℕ). Joins (Takes may b from m) (onward may bs n m) v) q (c .parts)))
       (λ (q : c .mid ≡ stop → ⊥). inl (record { mid = c .mid; early = omega arith; after = c .after; inside = c .inside; parts = c .parts }))
       (same? (c .mid) stop)
 
-  pub place-step : (stop : ℕ) {s next r : Suffix} → from ≤ stop → stop ≤ n → Given (CutBefore rows b (onward rows bs n) from n stop) from n s → Given (Joins (Takes rows b from stop) (onward rows bs n stop)) from n next
-      → Kept from n s next r → Given (CutBefore rows b (onward rows bs n) from n (stop + 1)) from n r
+  pub place-step : (stop : ℕ) {s next r : Suffix} → from ≤ stop → stop ≤ n → Given (CutBefore may b (onward may bs n) from n stop) from n s → Given (Joins (Takes may b from stop) (onward may bs n stop)) from n next
+      → Kept from n s next r → Given (CutBefore may b (onward may bs n) from n (stop + 1)) from n r
   place-step stop f l g h k = given-same (before-more stop f l) (before-split stop) (kept-union g h k)
 
-  cut-before : (stop : ℕ) (v : List ℕ) → CutBefore rows b (onward rows bs n) from n stop v → Cuts rows (b ∷ bs) from n v
+  cut-before : (stop : ℕ) (v : List ℕ) → CutBefore may b (onward may bs n) from n stop v → Cuts may (b ∷ bs) from n v
   unfolding Cuts
   cut-before stop v c = record { mid = c .mid; after = c .after; inside = c .inside; parts = c .parts }
 
-  before-cut : (stop : ℕ) → min (from + b .k + b .max) n < stop → (v : List ℕ) → Cuts rows (b ∷ bs) from n v → CutBefore rows b (onward rows bs n) from n stop v
+  before-cut : (stop : ℕ) → min (from + b .k + b .max) n < stop → (v : List ℕ) → Cuts may (b ∷ bs) from n v → CutBefore may b (onward may bs n) from n stop v
   unfolding Cuts
   before-cut stop l v c =
       let x = c .after in
@@ -98,75 +98,75 @@ module _ (rows : List ℕ) (b : Block) (bs : List Block) (from n : ℕ) where
       let z = c .parts .onLeft .few in
       record { mid = c .mid; early = omega arith; after = c .after; inside = c .inside; parts = c .parts }
 
-  pub place-end : (stop : ℕ) {s : Suffix} → min (from + b .k + b .max) n < stop → Given (CutBefore rows b (onward rows bs n) from n stop) from n s → Given (Cuts rows (b ∷ bs) from n) from n s
+  pub place-end : (stop : ℕ) {s : Suffix} → min (from + b .k + b .max) n < stop → Given (CutBefore may b (onward may bs n) from n stop) from n s → Given (Cuts may (b ∷ bs) from n) from n s
   place-end stop l g = given-same (cut-before stop) (before-cut stop l) g
 
 -- ---- the places low .. high: those before `from` have the new block, the others not yet
-pub record Walked (rows : List ℕ) (b : Block) (bs : List Block) (n low high from : ℕ) (u : List ℕ) : Type 0 where
+pub record Walked (may : ℕ → ℕ → Bool) (b : Block) (bs : List Block) (n low high from : ℕ) (u : List ℕ) : Type 0 where
   pub size : length u ≡ 1089
-  pub done : (p : ℕ) → low ≤ p → p < from → p ≤ n → Given (Cuts rows (b ∷ bs) p n) p n (entry u p)
-  pub todo : (p : ℕ) → from ≤ p → low + shortest b ≤ p → p ≤ high + longest b → p ≤ n → Given (Cuts rows bs p n) p n (entry u p)
+  pub done : (p : ℕ) → low ≤ p → p < from → p ≤ n → Given (Cuts may (b ∷ bs) p n) p n (entry u p)
+  pub todo : (p : ℕ) → from ≤ p → low + shortest b ≤ p → p ≤ high + longest b → p ≤ n → Given (Cuts may bs p n) p n (entry u p)
 
-pub walk-start : {rows : List ℕ} (b : Block) {bs : List Block} {n low high : ℕ} {t : List ℕ} → Tabled rows bs n (low + shortest b) (high + longest b) t → Walked rows b bs n low high low t
+pub walk-start : {may : ℕ → ℕ → Bool} (b : Block) {bs : List Block} {n low high : ℕ} {t : List ℕ} → Tabled may bs n (low + shortest b) (high + longest b) t → Walked may b bs n low high low t
 walk-start b g = record { size = g .size; done = λ p f l. absurd (omega arith); todo = λ p _. g .at p }
 
-pub walk-table : {rows : List ℕ} {b : Block} {bs : List Block} {n low high from : ℕ} {u : List ℕ} → low ≤ from → from ≤ high → Walked rows b bs n low high from u
-    → Tabled rows bs n (from + shortest b) (from + longest b) u
+pub walk-table : {may : ℕ → ℕ → Bool} {b : Block} {bs : List Block} {n low high from : ℕ} {u : List ℕ} → low ≤ from → from ≤ high → Walked may b bs n low high from u
+    → Tabled may bs n (from + shortest b) (from + longest b) u
 walk-table f l g = record { size = g .size; at = λ p a c e. g .todo p (omega arith) (omega arith) (omega arith) e }
 
-pub walk-step : {rows : List ℕ} {b : Block} {bs : List Block} {n low high from : ℕ} {u v : List ℕ} {s : Suffix} → n ≤ 32 → Walked rows b bs n low high from u
-    → Written from s u v → Given (Cuts rows (b ∷ bs) from n) from n s → Walked rows b bs n low high (from + 1) v
-walk-step {rows} {b} {bs} {n} {low} {high} {from} {u} {v} {s} h g w new = record {
+pub walk-step : {may : ℕ → ℕ → Bool} {b : Block} {bs : List Block} {n low high from : ℕ} {u v : List ℕ} {s : Suffix} → n ≤ 32 → Walked may b bs n low high from u
+    → Written from s u v → Given (Cuts may (b ∷ bs) from n) from n s → Walked may b bs n low high (from + 1) v
+walk-step {may} {b} {bs} {n} {low} {high} {from} {u} {v} {s} h g w new = record {
   size = w .size;
   done = λ p f l k. ⊎-elim
       (λ (q : p ≡ from).
-      subst (λ (x : ℕ). Given (Cuts rows (b ∷ bs) x n) x n (entry v x)) (sym q)
-      (subst (λ (x : Suffix). Given (Cuts rows (b ∷ bs) from n) from n x) (sym (w .here)) new))
+      subst (λ (x : ℕ). Given (Cuts may (b ∷ bs) x n) x n (entry v x)) (sym q)
+      (subst (λ (x : Suffix). Given (Cuts may (b ∷ bs) from n) from n x) (sym (w .here)) new))
       (λ (q : p ≡ from → ⊥).
-      subst (λ (x : Suffix). Given (Cuts rows (b ∷ bs) p n) p n x) (sym (w .other p (omega arith) q)) (g .done p f (omega arith) k))
+      subst (λ (x : Suffix). Given (Cuts may (b ∷ bs) p n) p n x) (sym (w .other p (omega arith) q)) (g .done p f (omega arith) k))
       (same? p from);
   todo = λ p l f a k.
       let q : p ≡ from → ⊥ = λ z. omega arith in
-      subst (λ (x : Suffix). Given (Cuts rows bs p n) p n x) (sym (w .other p (omega arith) q)) (g .todo p (omega arith) f a k);
+      subst (λ (x : Suffix). Given (Cuts may bs p n) p n x) (sym (w .other p (omega arith) q)) (g .todo p (omega arith) f a k);
 }
 
-pub walk-end : {rows : List ℕ} {b : Block} {bs : List Block} {n low high from : ℕ} {u : List ℕ} → high < from → Walked rows b bs n low high from u → Tabled rows (b ∷ bs) n low high u
+pub walk-end : {may : ℕ → ℕ → Bool} {b : Block} {bs : List Block} {n low high from : ℕ} {u : List ℕ} → high < from → Walked may b bs n low high from u → Tabled may (b ∷ bs) n low high u
 walk-end l g = record { size = g .size; at = λ p f a k. g .done p f (omega arith) k }
 
 -- ---- a block whose pieces are all of one length
-module _ (rows : List ℕ) (b : Block) (bs : List Block) (from n : ℕ) (even : b .min ≡ b .max) where
-  pub even-end : (to : ℕ) {s : Suffix} → to ≡ from + (b .k + b .min) → to ≤ n → Given (Joins (Takes rows b from to) (onward rows bs n to)) from n s
-      → Given (Cuts rows (b ∷ bs) from n) from n s
-  even-end to q l g = place-end rows b bs from n (to + 1) (omega arith) (place-step rows b bs from n to (omega arith) l (place-start rows b bs from n to (omega arith)) g (alone refl))
+module _ (may : ℕ → ℕ → Bool) (b : Block) (bs : List Block) (from n : ℕ) (even : b .min ≡ b .max) where
+  pub even-end : (to : ℕ) {s : Suffix} → to ≡ from + (b .k + b .min) → to ≤ n → Given (Joins (Takes may b from to) (onward may bs n to)) from n s
+      → Given (Cuts may (b ∷ bs) from n) from n s
+  even-end to q l g = place-end may b bs from n (to + 1) (omega arith) (place-step may b bs from n to (omega arith) l (place-start may b bs from n to (omega arith)) g (alone refl))
 
-  pub even-none : (to : ℕ) → to ≡ from + (b .k + b .min) → n < to → Given (Cuts rows (b ∷ bs) from n) from n nothing
-  even-none to q l = place-end rows b bs from n to (omega arith) (place-start rows b bs from n to (omega arith))
+  pub even-none : (to : ℕ) → to ≡ from + (b .k + b .min) → n < to → Given (Cuts may (b ∷ bs) from n) from n nothing
+  even-none to q l = place-end may b bs from n to (omega arith) (place-start may b bs from n to (omega arith))
 
 -- ---- a block with no members that takes any number of elements from min on: the least number, or one spare element and then the same
 pub one : Block → Block
 one b = record { first = b .first; k = b .k; min = 1; max = 1 }
 
 -- a spare element before a cut from the next place
-abbrev pub Spared : List ℕ → Block → List Block → ℕ → ℕ → List ℕ → Type 0
-Spared rows b bs from n v = Joins (Takes rows (one b) from (from + 1)) (onward rows (b ∷ bs) n (from + 1)) v
+abbrev pub Spared : (ℕ → ℕ → Bool) → Block → List Block → ℕ → ℕ → List ℕ → Type 0
+Spared may b bs from n v = Joins (Takes may (one b) from (from + 1)) (onward may (b ∷ bs) n (from + 1)) v
 
-given-spared : (rows : List ℕ) (b : Block) (bs : List Block) (from n : ℕ) {s : Suffix} → b .k ≡ 0 → from ≤ n → n ≤ 32
-    → Given (Cuts rows (b ∷ bs) (from + 1) n) (from + 1) n s → Given (Spared rows b bs from n) from n s
+given-spared : (may : ℕ → ℕ → Bool) (b : Block) (bs : List Block) (from n : ℕ) {s : Suffix} → b .k ≡ 0 → from ≤ n → n ≤ 32
+    → Given (Cuts may (b ∷ bs) (from + 1) n) (from + 1) n s → Given (Spared may b bs from n) from n s
 unfolding one
-given-spared rows b bs from n {s} z f end g = ⊎-elim
+given-spared may b bs from n {s} z f end g = ⊎-elim
     (λ (t : s .there ≡ true).
-    let o = cuts-order rows (b ∷ bs) (from + 1) n (slice (from + 1) n (s .w)) (g .best t .holds) in
+    let o = cuts-order may (b ∷ bs) (from + 1) n (slice (from + 1) n (s .w)) (g .best t .holds) in
     joined-spare (omega arith) o end (omega arith) (omega arith) g z t)
     (λ (t : s .there ≡ false). given-none t (g .blank t) (none-joins-right (g .none t)))
     (holds? (s .there))
 
 -- the assignments of a block with no members, one element longer or shorter
-longer : {rows : List ℕ} {first k from to : ℕ} {v : List ℕ} → k ≡ 0 → from < to → Assigns rows first k (from + 1) to v → Assigns rows first k from to (255 ∷ v)
-longer {rows} {first} {k} {from} {to} {v} z l a =
+longer : {may : ℕ → ℕ → Bool} {first k from to : ℕ} {v : List ℕ} → k ≡ 0 → from < to → Assigns may first k (from + 1) to v → Assigns may first k from to (255 ∷ v)
+longer {may} {first} {k} {from} {to} {v} z l a =
     let n = a .size in
     record {
       size = omega arith;
-      right = λ i h. takes-spare rows first k (from + i) (getD (255 ∷ v) i 0) (at i h);
+      right = λ i h. takes-spare may first k (from + i) (getD (255 ∷ v) i 0) (at i h);
       once = λ m f t. absurd (omega arith);
     }
   where
@@ -174,31 +174,31 @@ longer {rows} {first} {k} {from} {to} {v} z l a =
     at zero h = refl
     at (suc i) h = spare-bytes z a i (omega arith)
 
-shorter : {rows : List ℕ} {first k from to : ℕ} {x : ℕ} {v : List ℕ} → k ≡ 0 → Assigns rows first k from to (x ∷ v) → (x ≡ 255) × Assigns rows first k (from + 1) to v
-shorter {rows} {first} {k} {from} {to} {x} {v} z a =
+shorter : {may : ℕ → ℕ → Bool} {first k from to : ℕ} {x : ℕ} {v : List ℕ} → k ≡ 0 → Assigns may first k from to (x ∷ v) → (x ≡ 255) × Assigns may first k (from + 1) to v
+shorter {may} {first} {k} {from} {to} {x} {v} z a =
     let n = a .size in (
       spare-bytes z a 0 (omega arith),
       record {
         size = omega arith;
-        right = λ i h. takes-spare rows first k ((from + 1) + i) (getD v i 0) (spare-bytes z a (suc i) (suc-le-suc h));
+        right = λ i h. takes-spare may first k ((from + 1) + i) (getD v i 0) (spare-bytes z a (suc i) (suc-le-suc h));
         once = λ m f t. absurd (omega arith);
       },
     )
 
-one-spare : {rows : List ℕ} {first k from : ℕ} (v : List ℕ) → k ≡ 0 → Assigns rows first k from (from + 1) v → v ≡ 255 ∷ []
+one-spare : {may : ℕ → ℕ → Bool} {first k from : ℕ} (v : List ℕ) → k ≡ 0 → Assigns may first k from (from + 1) v → v ≡ 255 ∷ []
 one-spare [] z a = let n = a .size in absurd (omega arith)
 one-spare (x ∷ []) z a = ap (λ (y : ℕ). y ∷ []) (spare-bytes z a 0 (omega arith))
 one-spare (x ∷ y ∷ v) z a = let n = a .size in absurd (omega arith)
 
-spare-one : {rows : List ℕ} {first k from : ℕ} → k ≡ 0 → Assigns rows first k from (from + 1) (255 ∷ [])
+spare-one : {may : ℕ → ℕ → Bool} {first k from : ℕ} → k ≡ 0 → Assigns may first k from (from + 1) (255 ∷ [])
 spare-one z = longer z (omega arith) (record { size = omega arith; right = λ i l. absurd (omega arith); once = λ m f t. absurd (omega arith) })
 
-module _ (rows : List ℕ) (b : Block) (bs : List Block) (from n : ℕ) (z : b .k ≡ 0) (wide : n ≤ b .max) where
+module _ (may : ℕ → ℕ → Bool) (b : Block) (bs : List Block) (from n : ℕ) (z : b .k ≡ 0) (wide : n ≤ b .max) where
   -- a cut of its least length
   abbrev pub Least : List ℕ → Type 0
-  Least v = Joins (Takes rows b from (from + b .min)) (onward rows bs n (from + b .min)) v
+  Least v = Joins (Takes may b from (from + b .min)) (onward may bs n (from + b .min)) v
 
-  spared-cut : (v : List ℕ) → Spared rows b bs from n v → Cuts rows (b ∷ bs) from n v
+  spared-cut : (v : List ℕ) → Spared may b bs from n v → Cuts may (b ∷ bs) from n v
   unfolding Cuts one
   spared-cut v j =
       let c = j .onRight in
@@ -222,12 +222,12 @@ module _ (rows : List ℕ) (b : Block) (bs : List Block) (from n : ℕ) (z : b .
         };
       }
 
-  least-cut : from + b .min ≤ n → (v : List ℕ) → Least v → Cuts rows (b ∷ bs) from n v
+  least-cut : from + b .min ≤ n → (v : List ℕ) → Least v → Cuts may (b ∷ bs) from n v
   unfolding Cuts
   least-cut l v j = record { mid = from + b .min; after = omega arith; inside = l; parts = j }
 
   -- the first piece, longer than the least
-  cut-spared : (mid : ℕ) (p r v : List ℕ) → from + b .min < mid → mid ≤ n → v ≡ p ++ r → Takes rows b from mid p → Cuts rows bs mid n r → Spared rows b bs from n v
+  cut-spared : (mid : ℕ) (p r v : List ℕ) → from + b .min < mid → mid ≤ n → v ≡ p ++ r → Takes may b from mid p → Cuts may bs mid n r → Spared may b bs from n v
   unfolding Cuts one
   cut-spared mid [] r v l h q t c = let s = t .assigned .size in absurd (omega arith)
   cut-spared mid (x ∷ xs) r v l h q t c =
@@ -245,7 +245,7 @@ module _ (rows : List ℕ) (b : Block) (bs : List Block) (from n : ℕ) (z : b .
         };
       }
 
-  cut-open : (v : List ℕ) → Cuts rows (b ∷ bs) from n v → ((from + b .min ≤ n) × Least v) ⊎ Spared rows b bs from n v
+  cut-open : (v : List ℕ) → Cuts may (b ∷ bs) from n v → ((from + b .min ≤ n) × Least v) ⊎ Spared may b bs from n v
   unfolding Cuts
   cut-open v c =
       let p = c .parts in
@@ -254,24 +254,24 @@ module _ (rows : List ℕ) (b : Block) (bs : List Block) (from n : ℕ) (z : b .
       let after = c .after in
       let inside = c .inside in
       ⊎-elim
-      (λ (q : m ≡ from + b .min). inl (omega arith, subst (λ (x : ℕ). Joins (Takes rows b from x) (onward rows bs n x) v) q p))
+      (λ (q : m ≡ from + b .min). inl (omega arith, subst (λ (x : ℕ). Joins (Takes may b from x) (onward may bs n x) v) q p))
       (λ (q : m ≡ from + b .min → ⊥). inr (cut-spared m (p .left) (p .right) v (omega arith) inside (p .whole) (p .onLeft) (p .onRight)))
       (same? m (from + b .min))
 
   -- what is given from the next place on, one element longer
-  spared-given : (later : ℕ) {s : Suffix} → later ≡ from + 1 → from ≤ n → n ≤ 32 → Given (Cuts rows (b ∷ bs) later n) later n s → Given (Spared rows b bs from n) from n s
-  spared-given later {s} q f end g = given-spared rows b bs from n z f end (subst (λ (x : ℕ). Given (Cuts rows (b ∷ bs) x n) x n s) q g)
+  spared-given : (later : ℕ) {s : Suffix} → later ≡ from + 1 → from ≤ n → n ≤ 32 → Given (Cuts may (b ∷ bs) later n) later n s → Given (Spared may b bs from n) from n s
+  spared-given later {s} q f end g = given-spared may b bs from n z f end (subst (λ (x : ℕ). Given (Cuts may (b ∷ bs) x n) x n s) q g)
 
-  least-given : (to : ℕ) {s : Suffix} → to ≡ from + b .min → to ≤ n → n ≤ 32 → Given (Cuts rows bs to n) to n s → Given Least from n s
+  least-given : (to : ℕ) {s : Suffix} → to ≡ from + b .min → to ≤ n → n ≤ 32 → Given (Cuts may bs to n) to n s → Given Least from n s
   least-given to {s} q l end g =
-      let h : Given (Cuts rows bs (from + b .min) n) (from + b .min) n s = subst (λ (x : ℕ). Given (Cuts rows bs x n) x n s) q g in
+      let h : Given (Cuts may bs (from + b .min) n) (from + b .min) n s = subst (λ (x : ℕ). Given (Cuts may bs x n) x n s) q g in
       ⊎-elim
       (λ (t : s .there ≡ true). joined-spare (omega arith) (omega arith) end (omega arith) (omega arith) h z t)
       (λ (t : s .there ≡ false). given-none t (h .blank t) (none-joins-right (h .none t)))
       (holds? (s .there))
 
-  pub open-step : (to later : ℕ) {s next r : Suffix} → to ≡ from + b .min → later ≡ from + 1 → from ≤ n → n ≤ 32 → to ≤ n → Given (Cuts rows (b ∷ bs) later n) later n s
-      → Given (Cuts rows bs to n) to n next → Kept from n s next r → Given (Cuts rows (b ∷ bs) from n) from n r
+  pub open-step : (to later : ℕ) {s next r : Suffix} → to ≡ from + b .min → later ≡ from + 1 → from ≤ n → n ≤ 32 → to ≤ n → Given (Cuts may (b ∷ bs) later n) later n s
+      → Given (Cuts may bs to n) to n next → Kept from n s next r → Given (Cuts may (b ∷ bs) from n) from n r
   open-step to later {s} {next} {r} q e f end l g h k =
       let m : from + b .min ≤ n = omega arith in
       given-same
@@ -279,38 +279,38 @@ module _ (rows : List ℕ) (b : Block) (bs : List Block) (from n : ℕ) (z : b .
       (λ v c. ⊎-elim (λ x. inr (x .1)) (λ x. inl x) (cut-open v c))
       (kept-union (spared-given later e f end g) (least-given to q l end h) k)
 
-  pub open-short : (to later : ℕ) {s : Suffix} → to ≡ from + b .min → later ≡ from + 1 → from ≤ n → n ≤ 32 → n < to → Given (Cuts rows (b ∷ bs) later n) later n s
-      → Given (Cuts rows (b ∷ bs) from n) from n s
+  pub open-short : (to later : ℕ) {s : Suffix} → to ≡ from + b .min → later ≡ from + 1 → from ≤ n → n ≤ 32 → n < to → Given (Cuts may (b ∷ bs) later n) later n s
+      → Given (Cuts may (b ∷ bs) from n) from n s
   open-short to later {s} q e f end l g = given-same spared-cut
       (λ v c. ⊎-elim (λ (x : (from + b .min ≤ n) × Least v). let y = x .0 in absurd (omega arith)) (λ x. x) (cut-open v c))
       (spared-given later e f end g)
 
 -- all places from `from` on, and what the last of them has
-pub record Opened (rows : List ℕ) (b : Block) (bs : List Block) (n from : ℕ) (best : Suffix) (u : List ℕ) : Type 0 where
-  pub last : Given (Cuts rows (b ∷ bs) from n) from n best
-  pub at : (p : ℕ) → from ≤ p → p ≤ n → Given (Cuts rows (b ∷ bs) p n) p n (entry u p)
+pub record Opened (may : ℕ → ℕ → Bool) (b : Block) (bs : List Block) (n from : ℕ) (best : Suffix) (u : List ℕ) : Type 0 where
+  pub last : Given (Cuts may (b ∷ bs) from n) from n best
+  pub at : (p : ℕ) → from ≤ p → p ≤ n → Given (Cuts may (b ∷ bs) p n) p n (entry u p)
 
-pub opened-start : (rows : List ℕ) (b : Block) (bs : List Block) (n : ℕ) (t : List ℕ) → Opened rows b bs n (n + 1) nothing t
-opened-start rows b bs n t = record {
-  last = given-none refl refl (λ v c. let o = cuts-order rows (b ∷ bs) (n + 1) n v c in omega arith);
+pub opened-start : (may : ℕ → ℕ → Bool) (b : Block) (bs : List Block) (n : ℕ) (t : List ℕ) → Opened may b bs n (n + 1) nothing t
+opened-start may b bs n t = record {
+  last = given-none refl refl (λ v c. let o = cuts-order may (b ∷ bs) (n + 1) n v c in omega arith);
   at = λ p l k. absurd (omega arith);
 }
 
-pub opened-step : {rows : List ℕ} {b : Block} {bs : List Block} {n : ℕ} (from next : ℕ) {best s : Suffix} {u v : List ℕ} → next ≡ from + 1 → n ≤ 32
-    → Opened rows b bs n next best u → Written from s u v → Given (Cuts rows (b ∷ bs) from n) from n s → Opened rows b bs n from s v
-opened-step {rows} {b} {bs} {n} from next {best} {s} {u} {v} e end g w new = record {
+pub opened-step : {may : ℕ → ℕ → Bool} {b : Block} {bs : List Block} {n : ℕ} (from next : ℕ) {best s : Suffix} {u v : List ℕ} → next ≡ from + 1 → n ≤ 32
+    → Opened may b bs n next best u → Written from s u v → Given (Cuts may (b ∷ bs) from n) from n s → Opened may b bs n from s v
+opened-step {may} {b} {bs} {n} from next {best} {s} {u} {v} e end g w new = record {
   last = new;
   at = λ p l k. ⊎-elim
       (λ (q : p ≡ from).
-      subst (λ (x : ℕ). Given (Cuts rows (b ∷ bs) x n) x n (entry v x)) (sym q)
-      (subst (λ (x : Suffix). Given (Cuts rows (b ∷ bs) from n) from n x) (sym (w .here)) new))
+      subst (λ (x : ℕ). Given (Cuts may (b ∷ bs) x n) x n (entry v x)) (sym q)
+      (subst (λ (x : Suffix). Given (Cuts may (b ∷ bs) from n) from n x) (sym (w .here)) new))
       (λ (q : p ≡ from → ⊥).
-      subst (λ (x : Suffix). Given (Cuts rows (b ∷ bs) p n) p n x) (sym (w .other p (omega arith) q)) (g .at p (omega arith) k))
+      subst (λ (x : Suffix). Given (Cuts may (b ∷ bs) p n) p n x) (sym (w .other p (omega arith) q)) (g .at p (omega arith) k))
       (same? p from);
 }
 
 -- ---- no place beyond n counts
-pub prepended-up : {rows : List ℕ} {b : Block} {n low high top : ℕ} {t u : List ℕ} → top ≡ min high n → Prepended rows b n low top t u → Prepended rows b n low high t u
+pub prepended-up : {may : ℕ → ℕ → Bool} {b : Block} {n low high top : ℕ} {t u : List ℕ} → top ≡ min high n → Prepended may b n low top t u → Prepended may b n low high t u
 prepended-up q p = record {
   size = p .size;
   more = λ bs g.
@@ -339,32 +339,32 @@ inside-at d [] j l h = absurd (omega arith)
 inside-at d (b ∷ bs) zero l h = h .0
 inside-at d (b ∷ bs) (suc j) l h = inside-at d bs j (omega arith) (h .1)
 
-module _ (rows : List ℕ) (blocks : List Block) (count n : ℕ) (size : length blocks ≡ 32) (few : count ≤ 32) where
+module _ (may : ℕ → ℕ → Bool) (blocks : List Block) (count n : ℕ) (size : length blocks ≡ 32) (few : count ≤ 32) where
   long : length (take count blocks) ≡ count
   long = let x = length-take count blocks in omega arith
 
-  pub cut-start : {low high : ℕ} {t : List ℕ} → Tabled rows [] n low high t → Tabled rows (drop count (take count blocks)) n low high t
+  pub cut-start : {low high : ℕ} {t : List ℕ} → Tabled may [] n low high t → Tabled may (drop count (take count blocks)) n low high t
   cut-start {low} {high} {t} g =
       let x = long in
-      subst (λ (bs : List Block). Tabled rows bs n low high t) (sym (drop-of-length-le (take count blocks) {i = count} (omega arith))) g
+      subst (λ (bs : List Block). Tabled may bs n low high t) (sym (drop-of-length-le (take count blocks) {i = count} (omega arith))) g
 
   pub cut-step : (d : Block) (j i : ℕ) {low high low′ high′ : ℕ} {t u : List ℕ} → j ≡ suc i → j ≤ count
-      → low ≡ low′ + shortest (getD blocks i d) → high ≡ high′ + longest (getD blocks i d) → Prepended rows (getD blocks i d) n low′ high′ t u
-      → Tabled rows (drop j (take count blocks)) n low high t → Tabled rows (drop i (take count blocks)) n low′ high′ u
+      → low ≡ low′ + shortest (getD blocks i d) → high ≡ high′ + longest (getD blocks i d) → Prepended may (getD blocks i d) n low′ high′ t u
+      → Tabled may (drop j (take count blocks)) n low high t → Tabled may (drop i (take count blocks)) n low′ high′ u
   cut-step d j i {low} {high} {low′} {high′} {t} {u} q l ql qh more g =
       let x = long in
       let e : drop i (take count blocks) ≡ getD blocks i d ∷ drop j (take count blocks) =
       drop-cons (take count blocks) i d (omega arith) ∙ rw (getD-take count blocks i d (omega arith), q) in
-      let h : Tabled rows (drop j (take count blocks)) n (low′ + shortest (getD blocks i d)) (high′ + longest (getD blocks i d)) t = rw (ql, qh) at g in
-      subst (λ (bs : List Block). Tabled rows bs n low′ high′ u) (sym e) (more .more (drop j (take count blocks)) h)
+      let h : Tabled may (drop j (take count blocks)) n (low′ + shortest (getD blocks i d)) (high′ + longest (getD blocks i d)) t = rw (ql, qh) at g in
+      subst (λ (bs : List Block). Tabled may bs n low′ high′ u) (sym e) (more .more (drop j (take count blocks)) h)
 
   pub cut-inside : (d : Block) (i : ℕ) → i < count → Inside (take count blocks) → getD blocks i d .first + getD blocks i d .k ≤ 32
   cut-inside d i l h =
       let x = long in
       subst (λ (b : Block). b .first + b .k ≤ 32) (getD-take count blocks i d l) (inside-at d (take count blocks) i (omega arith) h)
 
-pub cut-end : (rows : List ℕ) (bs : List Block) {n : ℕ} {s : Suffix} → Given (Cuts rows bs 0 n) 0 n s → Cutting rows bs n (s .there) (s .w)
-cut-end rows bs {n} {s} g = record {
+pub cut-end : (may : ℕ → ℕ → Bool) (bs : List Block) {n : ℕ} {s : Suffix} → Given (Cuts may bs 0 n) 0 n s → Cutting may bs n (s .there) (s .w)
+cut-end may bs {n} {s} g = record {
   best = g .best;
   none = g .none;
   size = g .size;

@@ -17,25 +17,25 @@ use Rattle.blocks.specs.declared.Block.{Block}
 use Rattle.cuts.specs.Cut.{Cuts, Fills, Cutting, Filling, Passing}
 
 abbrev pub UniqueCut : Type 0
-UniqueCut = (rows : List ℕ) (bs : List Block) (n : ℕ) (found found' : Bool) (w w' : List ℕ)
-    → Cutting rows bs n found w → Cutting rows bs n found' w' → (found ≡ found') × (w ≡ w')
+UniqueCut = (may : ℕ → ℕ → Bool) (bs : List Block) (n : ℕ) (found found' : Bool) (w w' : List ℕ)
+    → Cutting may bs n found w → Cutting may bs n found' w' → (found ≡ found') × (w ≡ w')
 
 abbrev pub UniqueFilling : Type 0
-UniqueFilling = (rows : List ℕ) (k n : ℕ) (found found' : Bool) (w w' : List ℕ)
-    → Filling rows k n found w → Filling rows k n found' w' → (found ≡ found') × (w ≡ w')
+UniqueFilling = (may : ℕ → ℕ → Bool) (k n : ℕ) (found found' : Bool) (w w' : List ℕ)
+    → Filling may k n found w → Filling may k n found' w' → (found ≡ found') × (w ≡ w')
 
 abbrev pub CutPasses : Type 0
-CutPasses = (rows : List ℕ) (bs : List Block) (n : ℕ) (found r : Bool) (w v : List ℕ) → n ≤ 32
-    → Cutting rows bs n found w → found ≡ true → v ≡ take n w → Passing (Cuts rows bs 0 (length v) v) r → r ≡ true
+CutPasses = (may : ℕ → ℕ → Bool) (bs : List Block) (n : ℕ) (found r : Bool) (w v : List ℕ) → n ≤ 32
+    → Cutting may bs n found w → found ≡ true → v ≡ take n w → Passing (Cuts may bs 0 (length v) v) r → r ≡ true
 
 abbrev pub CutFound : Type 0
-CutFound = (rows : List ℕ) (bs : List Block) (n : ℕ) (found : Bool) (w v : List ℕ)
-    → Cutting rows bs n found w → length v ≡ n → Passing (Cuts rows bs 0 (length v) v) true → (found ≡ true) × (earlier v (take n w) ≡ false)
+CutFound = (may : ℕ → ℕ → Bool) (bs : List Block) (n : ℕ) (found : Bool) (w v : List ℕ)
+    → Cutting may bs n found w → length v ≡ n → Passing (Cuts may bs 0 (length v) v) true → (found ≡ true) × (earlier v (take n w) ≡ false)
 
 abbrev pub FillingPasses : Type 0
-FillingPasses = (rows : List ℕ) (k n : ℕ) (found r : Bool) (w v : List ℕ) → n ≤ 32
-    → Filling rows k n found w → found ≡ true → v ≡ take n w → Passing (Fills rows k (length v) v) r → r ≡ true
+FillingPasses = (may : ℕ → ℕ → Bool) (k n : ℕ) (found r : Bool) (w v : List ℕ) → n ≤ 32
+    → Filling may k n found w → found ≡ true → v ≡ take n w → Passing (Fills may k (length v) v) r → r ≡ true
 
 abbrev pub FillingFound : Type 0
-FillingFound = (rows : List ℕ) (k n : ℕ) (found : Bool) (w v : List ℕ)
-    → Filling rows k n found w → length v ≡ n → Passing (Fills rows k (length v) v) true → (found ≡ true) × (earlier v (take n w) ≡ false)
+FillingFound = (may : ℕ → ℕ → Bool) (k n : ℕ) (found : Bool) (w v : List ℕ)
+    → Filling may k n found w → length v ≡ n → Passing (Fills may k (length v) v) true → (found ≡ true) × (earlier v (take n w) ≡ false)

@@ -5,22 +5,22 @@
 -- Written p s before after <-> the table `after` has s at the place p, and is `before` at every other place
 -- shortest b, longest b    == how many elements the block b takes, at least and at most
 -- together f bs            == f of each of bs, added up
--- Tabled rows bs n low high t <-> at the places low .. high, the table t gives what the blocks bs take up to n
--- Prepended rows b n low high before after <-> where `before` is a table of some blocks, `after` is that of b and these, at the places low .. high
+-- Tabled may bs n low high t <-> at the places low .. high, the table t gives what the blocks bs take up to n
+-- Prepended may b n low high before after <-> where `before` is a table of some blocks, `after` is that of b and these, at the places low .. high
 -- Spliced a b from to r    <-> r is b with the bytes from .. to - 1 of a
 -- Kept from to a b r       <-> r is the one of a and b that is there, or comes first
--- Single rows m from rest r <-> r is rest with the member m before it, at the place `from`, or nothing where m may not take that element
--- CutBefore rows b rest from to stop w <-> w is a cut whose first piece, by b, ends before `stop`
+-- Single may m from rest r <-> r is rest with the member m before it, at the place `from`, or nothing where m may not take that element
+-- CutBefore may b rest from to stop w <-> w is a cut whose first piece, by b, ends before `stop`
 -- Assumes nothing: these are definitions.
 use mathlib.Core.Path.{_≡_}
-use mathlib.Core.Bool.{true, false}
+use mathlib.Core.Bool.{Bool, true, false}
 use mathlib.Core.List.{List, [], _∷_}
 use Prim.Native.Nat.{ℕ, _+_, _*_, _≤_, _<_}
 use lib.Dec.{eqb}
 use lib.ListN.{length, getD, set, replicate}
 use lib.Seq.{slice}
 use Rattle.assign.specs.Order.{First, Joins, earlier}
-use Rattle.masks.specs.Rows.{between, may}
+use Rattle.masks.specs.Rows.{between}
 use Rattle.blocks.specs.declared.Block.{Block}
 use Rattle.cuts.specs.declared.Suffix.{Suffix}
 use Rattle.cuts.specs.Cut.{Takes, Cuts}
@@ -54,13 +54,13 @@ unfoldable pub together : (Block → ℕ) → List Block → ℕ
 together f [] = 0
 together f (b ∷ bs) = f b + together f bs
 
-pub record Tabled (rows : List ℕ) (bs : List Block) (n low high : ℕ) (t : List ℕ) : Type 0 where
+pub record Tabled (may : ℕ → ℕ → Bool) (bs : List Block) (n low high : ℕ) (t : List ℕ) : Type 0 where
   pub size : length t ≡ 1089
-  pub at : (p : ℕ) → low ≤ p → p ≤ high → p ≤ n → Given (Cuts rows bs p n) p n (entry t p)
+  pub at : (p : ℕ) → low ≤ p → p ≤ high → p ≤ n → Given (Cuts may bs p n) p n (entry t p)
 
-pub record Prepended (rows : List ℕ) (b : Block) (n low high : ℕ) (before after : List ℕ) : Type 0 where
+pub record Prepended (may : ℕ → ℕ → Bool) (b : Block) (n low high : ℕ) (before after : List ℕ) : Type 0 where
   pub size : length after ≡ 1089
-  pub more : (bs : List Block) → Tabled rows bs n (low + shortest b) (high + longest b) before → Tabled rows (b ∷ bs) n low high after
+  pub more : (bs : List Block) → Tabled may bs n (low + shortest b) (high + longest b) before → Tabled may (b ∷ bs) n low high after
 
 pub record Spliced (a b : List ℕ) (from to : ℕ) (r : List ℕ) : Type 0 where
   pub size : length r ≡ 32
@@ -74,13 +74,13 @@ pub data Kept (from to : ℕ) (a b : Suffix) : Suffix → Type 0 where
   later : a .there ≡ true → b .there ≡ true → earlier (slice from to (b .w)) (slice from to (a .w)) ≡ false → Kept from to a b a
   sooner : a .there ≡ true → b .there ≡ true → earlier (slice from to (b .w)) (slice from to (a .w)) ≡ true → Kept from to a b b
 
-pub data Single (rows : List ℕ) (m from : ℕ) (rest : Suffix) : Suffix → Type 0 where
-  fits : may rows m from ≡ true → Single rows m from rest (record { there = true; w = set (rest .w) from m })
-  fails : may rows m from ≡ false → Single rows m from rest nothing
+pub data Single (may : ℕ → ℕ → Bool) (m from : ℕ) (rest : Suffix) : Suffix → Type 0 where
+  fits : may m from ≡ true → Single may m from rest (record { there = true; w = set (rest .w) from m })
+  fails : may m from ≡ false → Single may m from rest nothing
 
-pub record CutBefore (rows : List ℕ) (b : Block) (rest : ℕ → List ℕ → Type 0) (from to stop : ℕ) (w : List ℕ) : Type 0 where
+pub record CutBefore (may : ℕ → ℕ → Bool) (b : Block) (rest : ℕ → List ℕ → Type 0) (from to stop : ℕ) (w : List ℕ) : Type 0 where
   pub mid : ℕ
   pub early : mid < stop
   pub after : from ≤ mid
   pub inside : mid ≤ to
-  pub parts : Joins (Takes rows b from mid) (rest mid) w
+  pub parts : Joins (Takes may b from mid) (rest mid) w

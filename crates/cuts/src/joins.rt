@@ -4,6 +4,7 @@ ghost use mathlib.Core.Bool.{true};
 ghost use mathlib.Core.List.{List};
 ghost use Prim.Native.Nat.{ℕ, _+_, _-_, _≤_, _<_};
 ghost use lib.Seq.{slice};
+ghost use Rattle.masks.specs.Rows.{may};
 ghost use Rattle.assign.specs.Order.{earlier, Joins};
 ghost use Rattle.blocks.specs.declared.Block.{Block as BlockOf};
 ghost use Rattle.cuts.specs.Cut.{Takes, Cuts};
@@ -68,7 +69,7 @@ pub fn keep(a: Suffix, b: Suffix, from: usize, to: usize) -> Suffix
 // The member m, if it may take the element `from`, before the list `rest`, which begins after it.
 fn single(rows: &[u32; 32], m: u8, rest: Suffix, from: usize) -> Suffix
     requires { ⌜ (m < 32) × (from < 32) ⌝ }
-    ensures { λ r. ⌜ Single (now (rows .entry)) m from rest r ⌝ }
+    ensures { λ r. ⌜ Single (may (now (rows .entry))) m from rest r ⌝ }
 {
     if !may_take(rows, m, from as u8) {
         let blank = [SPARE; 32];
@@ -85,7 +86,7 @@ fn single(rows: &[u32; 32], m: u8, rest: Suffix, from: usize) -> Suffix
 // The first assignment of the elements from .. to - 1 by the block, before the list `rest`, which is there and begins at `to`.
 fn searched(rows: &[u32; 32], b: Block, rest: Suffix, from: usize, to: usize) -> Suffix
     requires { ⌜ (b .first + b .k ≤ 32) × (from ≤ to) × (to ≤ 32) × (b .k + b .min ≤ to - from) × (to - from ≤ b .k + b .max) × (rest .there ≡ true) ⌝ }
-    ensures { λ r. ⌜ ((bs : List BlockOf) (n : ℕ) → to ≤ n → n ≤ 32 → Given (Cuts (now (rows .entry)) bs to n) to n rest → Given (Joins (Takes (now (rows .entry)) b from to) (Cuts (now (rows .entry)) bs to n)) from n r) ⌝ }
+    ensures { λ r. ⌜ ((bs : List BlockOf) (n : ℕ) → to ≤ n → n ≤ 32 → Given (Cuts (may (now (rows .entry))) bs to n) to n rest → Given (Joins (Takes (may (now (rows .entry))) b from to) (Cuts (may (now (rows .entry))) bs to n)) from n r) ⌝ }
 {
     let piece = first_assignment(rows, b.first, b.k, from as u8, to as u8);
     let left = piece.w;
@@ -103,7 +104,7 @@ fn searched(rows: &[u32; 32], b: Block, rest: Suffix, from: usize, to: usize) ->
 // The same for any list `rest`; nothing is searched for where that is not needed.
 pub fn joined(rows: &[u32; 32], b: Block, rest: Suffix, from: usize, to: usize) -> Suffix
     requires { ⌜ (b .first + b .k ≤ 32) × (from ≤ to) × (to ≤ 32) × (b .k + b .min ≤ to - from) × (to - from ≤ b .k + b .max) ⌝ }
-    ensures { λ r. ⌜ ((bs : List BlockOf) (n : ℕ) → to ≤ n → n ≤ 32 → Given (Cuts (now (rows .entry)) bs to n) to n rest → Given (Joins (Takes (now (rows .entry)) b from to) (Cuts (now (rows .entry)) bs to n)) from n r) ⌝ }
+    ensures { λ r. ⌜ ((bs : List BlockOf) (n : ℕ) → to ≤ n → n ≤ 32 → Given (Cuts (may (now (rows .entry))) bs to n) to n rest → Given (Joins (Takes (may (now (rows .entry))) b from to) (Cuts (may (now (rows .entry))) bs to n)) from n r) ⌝ }
 {
     if !rest.there {
         return rest;

@@ -1,6 +1,7 @@
 // A run of elements cut into consecutive pieces, one for each block; and the same for a run in which every element has a member.
 ghost use Prim.Native.Nat.{_≤_};
 ghost use lib.ListN.{take};
+ghost use Rattle.masks.specs.Rows.{may};
 ghost use Rattle.cuts.specs.Cut.{Inside, Cutting, Filling};
 use assign::Found;
 use assign::first_assignment;
@@ -26,7 +27,7 @@ pub struct Suffix {
 // The first cut of the elements 0 .. n - 1 by the first `count` blocks: the table is made from the last block to the first.
 pub fn first_cut(rows: &[u32; 32], blocks: [Block; 32], count: usize, n: u8) -> Found
     requires { ⌜ (count ≤ 32) × (n ≤ 32) × Inside (take count blocks) ⌝ }
-    ensures { λ r. ⌜ Cutting (now (rows .entry)) (take count blocks) n (r .found) (r .w) ⌝ }
+    ensures { λ r. ⌜ Cutting (may (now (rows .entry))) (take count blocks) n (r .found) (r .w) ⌝ }
 {
     let to = n as usize;
     let whole = extent_of(blocks, count);
@@ -54,7 +55,7 @@ pub fn first_cut(rows: &[u32; 32], blocks: [Block; 32], count: usize, n: u8) -> 
 // added, which every member may take: the members that the others leave fill them.
 pub fn first_filling(rows: &[u32; 32], k: u8, n: u8) -> Found
     requires { ⌜ (k ≤ 32) × (n ≤ 32) ⌝ }
-    ensures { λ r. ⌜ Filling (now (rows .entry)) k n (r .found) (r .w) ⌝ }
+    ensures { λ r. ⌜ Filling (may (now (rows .entry))) k n (r .found) (r .w) ⌝ }
 {
     let blank = [SPARE; 32];
     if k < n {

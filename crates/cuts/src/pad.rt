@@ -2,7 +2,7 @@
 ghost use mathlib.Core.Path.{_≡_};
 ghost use mathlib.Core.Bool.{_||_};
 ghost use Prim.Native.Nat.{ℕ, _≤_};
-ghost use Rattle.masks.specs.Rows.{bit, between};
+ghost use Rattle.masks.specs.Rows.{bit, between, may};
 ghost use Rattle.cuts.specs.Pad.{Padded};
 use masks::rows::choices;
 use masks::span;
@@ -17,7 +17,7 @@ fn union(a: u32, b: u32) -> u32
 // The rows in which each member below k may take the elements n .. k - 1 too.
 pub fn padded(rows: &[u32; 32], n: u8, k: u8) -> [u32; 32]
     requires { ⌜ (n ≤ k) × (k ≤ 32) ⌝ }
-    ensures { λ r. ⌜ Padded (now (rows .entry)) n k r ⌝ }
+    ensures { λ r. ⌜ Padded (may (now (rows .entry))) n k (may r) ⌝ }
 {
     let more = span(n, k);
     let mut r = [0u32; 32];

@@ -1,9 +1,11 @@
 // For each place the first list by which the blocks so far take the elements from there on: one block more at a time, in front. A place
 // that the blocks before cannot end at is not looked at.
+ghost use mathlib.Core.Bool.{Bool};
 ghost use mathlib.Core.Path.{_≡_};
 ghost use mathlib.Core.List.{List, [], _∷_};
 ghost use Prim.Native.Nat.{ℕ, _+_, _≤_, min};
 ghost use lib.ListN.{length, take};
+ghost use Rattle.masks.specs.Rows.{may};
 ghost use Rattle.blocks.specs.declared.Block.{Block as BlockOf};
 ghost use Rattle.cuts.specs.Cut.{Cuts};
 ghost use Rattle.cuts.specs.Table.{Given, Tabled, Prepended, shortest, longest, together};
@@ -41,7 +43,7 @@ pub fn extent_of(blocks: [Block; 32], count: usize) -> Extent
 // No blocks: they take nothing, which is what is left at n.
 pub fn last(n: usize) -> [u8; 1089]
     requires { ⌜ n ≤ 32 ⌝ }
-    ensures { λ r. ⌜ ((rows : List ℕ) (low high : ℕ) → Tabled rows [] n low high r) ⌝ }
+    ensures { λ r. ⌜ ((may : ℕ → ℕ → Bool) (low high : ℕ) → Tabled may [] n low high r) ⌝ }
 {
     let mut t = [SPARE; 1089];
     let w = [SPARE; 32];
@@ -60,7 +62,7 @@ fn lesser(a: usize, b: usize) -> usize
 // What b and the blocks of the table take from the place `from` on: over each end of b's piece, the lesser.
 fn at_place(rows: &[u32; 32], b: Block, t: &[u8; 1089], from: usize, n: usize) -> Suffix
     requires { ⌜ (b .first + b .k ≤ 32) × (from ≤ n) × (n ≤ 32) × (length (now t) ≡ 1089) ⌝ }
-    ensures { λ r. ⌜ ((bs : List BlockOf) → Tabled (now (rows .entry)) bs n (from + shortest b) (from + longest b) (now (t .entry)) → Given (Cuts (now (rows .entry)) (b ∷ bs) from n) from n r) ⌝ }
+    ensures { λ r. ⌜ ((bs : List BlockOf) → Tabled (may (now (rows .entry))) bs n (from + shortest b) (from + longest b) (now (t .entry)) → Given (Cuts (may (now (rows .entry))) (b ∷ bs) from n) from n r) ⌝ }
 {
     let w = [SPARE; 32];
     let mut best = Suffix { there: false, w: w };
@@ -79,7 +81,7 @@ fn at_place(rows: &[u32; 32], b: Block, t: &[u8; 1089], from: usize, n: usize) -
 // it, and itself as it was.
 fn prepend_any(rows: &[u32; 32], b: Block, t: &mut [u8; 1089], low: usize, high: usize, n: usize)
     requires { ⌜ (b .first + b .k ≤ 32) × (high ≤ n) × (n ≤ 32) × (length (now t) ≡ 1089) ⌝ }
-    ensures { λ _. ⌜ Prepended (now (rows .entry)) b n low high (now (t .entry)) (now (t .exit)) ⌝ }
+    ensures { λ _. ⌜ Prepended (may (now (rows .entry))) b n low high (now (t .entry)) (now (t .exit)) ⌝ }
 {
     let mut from = low;
     while from <= high {
@@ -92,7 +94,7 @@ fn prepend_any(rows: &[u32; 32], b: Block, t: &mut [u8; 1089], low: usize, high:
 // The same for a block whose pieces are all of one length: each place has one end.
 fn prepend_even(rows: &[u32; 32], b: Block, t: &mut [u8; 1089], low: usize, high: usize, n: usize)
     requires { ⌜ (b .first + b .k ≤ 32) × (high ≤ n) × (n ≤ 32) × (length (now t) ≡ 1089) × (b .min ≡ b .max) ⌝ }
-    ensures { λ _. ⌜ Prepended (now (rows .entry)) b n low high (now (t .entry)) (now (t .exit)) ⌝ }
+    ensures { λ _. ⌜ Prepended (may (now (rows .entry))) b n low high (now (t .entry)) (now (t .exit)) ⌝ }
 {
     let w = [SPARE; 32];
     let size = b.k as usize + b.min as usize;
@@ -112,7 +114,7 @@ fn prepend_even(rows: &[u32; 32], b: Block, t: &mut [u8; 1089], low: usize, high
 // The same for a block with no members and any number of spare elements from min on: the least number, or one more than from the next place.
 fn prepend_open(b: Block, t: &mut [u8; 1089], low: usize, n: usize)
     requires { ⌜ (b .k ≡ 0) × (n ≤ b .max) × (n ≤ 32) × (length (now t) ≡ 1089) ⌝ }
-    ensures { λ _. ⌜ ((rows : List ℕ) (high : ℕ) → Prepended rows b n low high (now (t .entry)) (now (t .exit))) ⌝ }
+    ensures { λ _. ⌜ ((may : ℕ → ℕ → Bool) (high : ℕ) → Prepended may b n low high (now (t .entry)) (now (t .exit))) ⌝ }
 {
     let w = [SPARE; 32];
     let least = b.min as usize;
@@ -133,7 +135,7 @@ fn prepend_open(b: Block, t: &mut [u8; 1089], low: usize, n: usize)
 // The table with the block b in front, at the places low .. high.
 pub fn prepend(rows: &[u32; 32], b: Block, t: &mut [u8; 1089], low: usize, high: usize, n: usize)
     requires { ⌜ (b .first + b .k ≤ 32) × (n ≤ 32) × (length (now t) ≡ 1089) ⌝ }
-    ensures { λ _. ⌜ Prepended (now (rows .entry)) b n low high (now (t .entry)) (now (t .exit)) ⌝ }
+    ensures { λ _. ⌜ Prepended (may (now (rows .entry))) b n low high (now (t .entry)) (now (t .exit)) ⌝ }
 {
     if b.min == b.max {
         prepend_even(rows, b, t, low, lesser(high, n), n);

@@ -1,6 +1,6 @@
 -- A template's rules by its blocks: an assignment obeys exactly where its blocks cut the list, or, for a subset, where its members fill it.
 -- Assumes nothing.
--- Agree hits es e xs rows <-> the rows say of each member of es which of the elements xs it matches, the first of which is e
+-- Agree hits es e xs may <-> may says of each member of es which of the elements xs it matches, the first of which is e
 use mathlib.Core.Path.{_≡_, refl, sym, ap, _∙_}
 use mathlib.Core.Bool.{Bool, true, false, _&&_, _||_}
 use mathlib.Core.Logic.{_⊎_, inl, inr, ⊎-elim}
@@ -12,7 +12,7 @@ use borrow.Author.Tests.{eqb-true, eq-eqb, leb-true, le-leb}
 use lib.Dec.{eqb, leb}
 use lib.ListN.{length, getD, take, drop, length-append, length-drop}
 use lib.Seq.{length-take-le, drop-append-seam, take-append-seam}
-use Rattle.masks.specs.Rows.{may, cnt}
+use Rattle.masks.specs.Rows.{cnt}
 use Rattle.masks.proofs.Lemmas.{and-left, and-right, both, one-of, or-left, or-right, same?, hit, miss}
 use Rattle.assign.proofs.Counting.{cnt-append}
 use Rattle.assign.proofs.Assignments.{once-test, test-once}
@@ -24,11 +24,11 @@ use Rattle.template.specs.Blocks.{block, blockOfGroup, blockOfItem, blocksOfIte
 use Rattle.matcher.specs.Obeys.{spare, rightBytes, noneTwice, someCut, cuts, itemTakes, bodyMet, lengthMet, obeysBy}
 use Rattle.matcher.proofs.Pieces.{MayByte, MayAll, may-append, may-left, may-right, Within, Once, length-once, cnt-outside, Piece, PieceOf, takes-piece, piece-takes, group-says, group-test, item-says, item-test}
 
--- ---- the bytes are right where the rows say so
+-- ---- the bytes are right where may says so
 
-unfoldable pub Agree : {L X : Type 0} → (Elem L → X → Bool) → List (Elem L) → ℕ → List X → List ℕ → Type 0
-Agree hits es e [] rows = Unit {0}
-Agree hits es e (x ∷ xs) rows = ((m : ℕ) → may rows m e ≡ memberHits hits es m x) × Agree hits es (suc e) xs rows
+unfoldable pub Agree : {L X : Type 0} → (Elem L → X → Bool) → List (Elem L) → ℕ → List X → (ℕ → ℕ → Bool) → Type 0
+Agree hits es e [] may = Unit {0}
+Agree hits es e (x ∷ xs) may = ((m : ℕ) → may m e ≡ memberHits hits es m x) × Agree hits es (suc e) xs may
 
 -- a member's number that hits is below the number of members
 pub hits-low : {L X : Type 0} (hits : Elem L → X → Bool) (gs : List (Elem L)) (m : ℕ) (x : X) → memberHits hits gs m x ≡ true → m < length gs
@@ -37,8 +37,8 @@ hits-low hits [] m x h = absurd (mathlib.Core.Bool.true≢false (sym h))
 hits-low hits (g ∷ gs) zero x h = omega arith
 hits-low hits (g ∷ gs) (suc m) x h = let ih = hits-low hits gs m x h in omega arith
 
-module _ {L X : Type 0} (hits : Elem L → X → Bool) (es : List (Elem L)) (rows : List ℕ) where
-  pub right-says : (e : ℕ) (xs : List X) (w : List ℕ) → Agree hits es e xs rows → rightBytes hits es xs w ≡ true → MayAll rows e w × (length w ≡ length xs)
+module _ {L X : Type 0} (hits : Elem L → X → Bool) (es : List (Elem L)) (may : ℕ → ℕ → Bool) where
+  pub right-says : (e : ℕ) (xs : List X) (w : List ℕ) → Agree hits es e xs may → rightBytes hits es xs w ≡ true → MayAll may e w × (length w ≡ length xs)
   unfolding rightBytes MayAll Agree
   right-says e [] [] a h = (tt, refl)
   right-says e [] (b ∷ w) a h = absurd (mathlib.Core.Bool.true≢false (sym h))
@@ -48,23 +48,23 @@ module _ {L X : Type 0} (hits : Elem L → X → Bool) (es : List (Elem L)) (row
       let r = right-says (suc e) xs w (a .1) (and-right (eqb b spare || memberHits hits es b x) (rightBytes hits es xs w) h) in
       ((⊎-elim (λ (s : eqb b spare ≡ true). inl (eqb-true b spare s)) (λ (s : memberHits hits es b x ≡ true). inr (a .0 b ∙ s)) u, r .0), ap suc (r .1))
 
-  pub right-test : (e : ℕ) (xs : List X) (w : List ℕ) → Agree hits es e xs rows → MayAll rows e w → length w ≡ length xs → rightBytes hits es xs w ≡ true
+  pub right-test : (e : ℕ) (xs : List X) (w : List ℕ) → Agree hits es e xs may → MayAll may e w → length w ≡ length xs → rightBytes hits es xs w ≡ true
   unfolding rightBytes MayAll Agree
   right-test e [] [] a h l = refl
   right-test e [] (b ∷ w) a h l = absurd (omega arith)
   right-test e (x ∷ xs) [] a h l = absurd (omega arith)
   right-test e (x ∷ xs) (b ∷ w) a h l =
       both (eqb b spare || memberHits hits es b x) (rightBytes hits es xs w)
-      (⊎-elim (λ (s : b ≡ 255). or-left (eqb b spare) (memberHits hits es b x) (eq-eqb b spare s)) (λ (s : may rows b e ≡ true). or-right (eqb b spare) (memberHits hits es b x) (sym (a .0 b) ∙ s)) (h .0))
+      (⊎-elim (λ (s : b ≡ 255). or-left (eqb b spare) (memberHits hits es b x) (eq-eqb b spare s)) (λ (s : may b e ≡ true). or-right (eqb b spare) (memberHits hits es b x) (sym (a .0 b) ∙ s)) (h .0))
       (right-test (suc e) xs w (a .1) (h .1) (omega arith))
 
-  pub right-within : (e : ℕ) (xs : List X) (w : List ℕ) → Agree hits es e xs rows → MayAll rows e w → length w ≡ length xs → Within 0 (length es) w
+  pub right-within : (e : ℕ) (xs : List X) (w : List ℕ) → Agree hits es e xs may → MayAll may e w → length w ≡ length xs → Within 0 (length es) w
   unfolding MayAll Agree Within
   right-within e [] [] a h l = tt
   right-within e [] (b ∷ w) a h l = absurd (omega arith)
   right-within e (x ∷ xs) [] a h l = absurd (omega arith)
   right-within e (x ∷ xs) (b ∷ w) a h l = (
-    ⊎-elim (λ (s : b ≡ 255). inl s) (λ (s : may rows b e ≡ true). let z = hits-low hits es b x (sym (a .0 b) ∙ s) in inr (omega arith, omega arith)) (h .0),
+    ⊎-elim (λ (s : b ≡ 255). inl s) (λ (s : may b e ≡ true). let z = hits-low hits es b x (sym (a .0 b) ∙ s) in inr (omega arith, omega arith)) (h .0),
     right-within (suc e) xs w (a .1) (h .1) (omega arith),
   )
 
@@ -146,8 +146,8 @@ unfolding Within
 within-append m k [] q a b = b
 within-append m k (x ∷ p) q a b = (a .0, within-append m k p q (a .1) b)
 
-module _ {L : Type 0} (rows : List ℕ) where
-  pub cuts-says : (m : ℕ) (is : List (Item L)) (w : List ℕ) (from : ℕ) → m + countOf is ≤ 255 → cuts m is w ≡ true → MayAll rows from w → Cuts rows (blocksOfItems m is) from (from + length w) w
+module _ {L : Type 0} (may : ℕ → ℕ → Bool) where
+  pub cuts-says : (m : ℕ) (is : List (Item L)) (w : List ℕ) (from : ℕ) → m + countOf is ≤ 255 → cuts m is w ≡ true → MayAll may from w → Cuts may (blocksOfItems m is) from (from + length w) w
   unfolding cuts Cuts blocksOfItems
   cuts-says m [] w from l h r = let z = eqb-true (length w) 0 h in (omega arith, nil-of-length w z)
   cuts-says m (i ∷ is) w from l h r =
@@ -160,24 +160,24 @@ module _ {L : Type 0} (rows : List ℕ) where
       let left = and-left (itemTakes m i (take n w)) (cuts (m + length (membersOfItem i)) is (drop n w)) both-hold in
       let right = and-right (itemTakes m i (take n w)) (cuts (m + length (membersOfItem i)) is (drop n w)) both-hold in
       let whole : w ≡ take n w ++ drop n w = take-drop n w in
-      let r₁ : MayAll rows from (take n w ++ drop n w) = rw (sym whole) r in
+      let r₁ : MayAll may from (take n w ++ drop n w) = rw (sym whole) r in
       let ln : length (take n w) ≡ n = length-take-le n w low in
       let ld : length (drop n w) ≡ length w - n = length-drop n w in
       let p : PieceOf (blockOfItem m i) (take n w) = item-says m i (take n w) (omega (arith, size .0)) left in
-      let t : Takes rows (blockOfItem m i) from (from + n) (take n w) = piece-takes rows (blockOfItem m i .first) (blockOfItem m i .k) (blockOfItem m i .min) (blockOfItem m i .max) from (from + n) (take n w) p (may-left rows from (take n w) (drop n w) r₁) (omega arith) in
-      let r₂ : MayAll rows (from + n) (drop n w) = rw ln at (may-right rows from (take n w) (drop n w) r₁) in
+      let t : Takes may (blockOfItem m i) from (from + n) (take n w) = piece-takes may (blockOfItem m i .first) (blockOfItem m i .k) (blockOfItem m i .min) (blockOfItem m i .max) from (from + n) (take n w) p (may-left may from (take n w) (drop n w) r₁) (omega arith) in
+      let r₂ : MayAll may (from + n) (drop n w) = rw ln at (may-right may from (take n w) (drop n w) r₁) in
       let q = cuts-says (m + length (membersOfItem i)) is (drop n w) (from + n) (omega arith) right r₂ in
       let z : from + n + length (drop n w) ≡ from + length w = omega arith in
       record { mid = from + n; after = omega arith; inside = omega arith; parts = record { left = take n w; right = drop n w; whole = whole; onLeft = t; onRight = rw z at q } }
 
   pub record CutsTest (m : ℕ) (is : List (Item L)) (from to : ℕ) (w : List ℕ) : Type 0 where
     pub test : cuts m is w ≡ true
-    pub rights : MayAll rows from w
+    pub rights : MayAll may from w
     pub size : from + length w ≡ to
     pub within : Within m (countOf is) w
     pub few : (v : ℕ) → (v ≡ 255 → ⊥) → cnt v w ≤ 1
 
-  pub cuts-test : (m : ℕ) (is : List (Item L)) (from to : ℕ) (w : List ℕ) → m + countOf is ≤ 255 → Cuts rows (blocksOfItems m is) from to w → CutsTest m is from to w
+  pub cuts-test : (m : ℕ) (is : List (Item L)) (from to : ℕ) (w : List ℕ) → m + countOf is ≤ 255 → Cuts may (blocksOfItems m is) from to w → CutsTest m is from to w
   unfolding cuts Cuts blocksOfItems MayAll Within cnt
   cuts-test m [] from to w l c =
       let e = c .0 in
@@ -189,7 +189,7 @@ module _ {L : Type 0} (rows : List ℕ) where
       let p = j .left in
       let q = j .right in
       let k = length (membersOfItem i) in
-      let t = takes-piece rows (blockOfItem m i .first) (blockOfItem m i .k) (blockOfItem m i .min) (blockOfItem m i .max) from (c .mid) p (c .after) (j .onLeft) in
+      let t = takes-piece may (blockOfItem m i .first) (blockOfItem m i .k) (blockOfItem m i .min) (blockOfItem m i .max) from (c .mid) p (c .after) (j .onLeft) in
       let u = cuts-test (m + k) is (c .mid) to q (omega arith) (j .onRight) in
       let lp = t .2 in
       let lq = u .size in
@@ -202,7 +202,7 @@ module _ {L : Type 0} (rows : List ℕ) where
       rw (j .whole)
       (record {
         test = cut-test (length (p ++ q)) (λ n. itemTakes m i (take n (p ++ q)) && cuts (m + k) is (drop n (p ++ q))) (length p) (omega arith) here;
-        rights = may-append rows from p q (t .1) (rw lp (u .rights));
+        rights = may-append may from p q (t .1) (rw lp (u .rights));
         size = omega arith;
         within = within-append m (countOf (i ∷ is)) p q (wider m k m (countOf (i ∷ is)) p (omega arith) (omega arith) pw) (wider (m + k) (countOf is) m (countOf (i ∷ is)) q (omega arith) (omega arith) (u .within));
         few = λ v n.
@@ -223,23 +223,23 @@ module _ {L : Type 0} (rows : List ℕ) where
 
 -- ---- a set of and a superset: one block over the whole list
 
-module _ (rows : List ℕ) (m k min max n : ℕ) (w : List ℕ) where
-  pub whole-cut : Piece m k min max w → MayAll rows 0 w → length w ≡ n → Cuts rows (block m k min max ∷ []) 0 n w
+module _ (may : ℕ → ℕ → Bool) (m k min max n : ℕ) (w : List ℕ) where
+  pub whole-cut : Piece m k min max w → MayAll may 0 w → length w ≡ n → Cuts may (block m k min max ∷ []) 0 n w
   unfolding Cuts
   whole-cut p r l =
       record {
         mid = n;
         after = omega arith;
         inside = omega arith;
-        parts = record { left = w; right = []; whole = sym (append-nil w); onLeft = piece-takes rows m k min max 0 n w p r (omega arith); onRight = (refl, refl) };
+        parts = record { left = w; right = []; whole = sym (append-nil w); onLeft = piece-takes may m k min max 0 n w p r (omega arith); onRight = (refl, refl) };
       }
 
-  pub cut-whole : Cuts rows (block m k min max ∷ []) 0 n w → Piece m k min max w × MayAll rows 0 w × (length w ≡ n)
+  pub cut-whole : Cuts may (block m k min max ∷ []) 0 n w → Piece m k min max w × MayAll may 0 w × (length w ≡ n)
   unfolding Cuts
   cut-whole c =
       let j = c .parts in
       let e : w ≡ j .left = j .whole ∙ ap (λ v. j .left ++ v) (j .onRight .1) ∙ append-nil (j .left) in
-      let t = takes-piece rows m k min max 0 (c .mid) (j .left) (c .after) (j .onLeft) in
+      let t = takes-piece may m k min max 0 (c .mid) (j .left) (c .after) (j .onLeft) in
       let z = t .2 in
       let y = j .onRight .0 in
       rw e (t .0, t .1, omega arith)
@@ -256,18 +256,18 @@ all-given [] n k h c l e b = absurd (omega arith)
 all-given (x ∷ w) n k h c l zero b = ⊎-elim (λ (s : x ≡ 255). let z = hit x 255 s in absurd (omega arith)) (λ (s : (0 ≤ x) × (x < 0 + k)). omega arith) (h .0)
 all-given (x ∷ w) n k h c l (suc e) b = all-given w (length w) k (h .1) (omega arith) refl e (omega arith)
 
-may-at : (rows : List ℕ) (e : ℕ) (w : List ℕ) → MayAll rows e w → (i : ℕ) → i < length w → MayByte rows (e + i) (getD w i 0)
+may-at : (may : ℕ → ℕ → Bool) (e : ℕ) (w : List ℕ) → MayAll may e w → (i : ℕ) → i < length w → MayByte may (e + i) (getD w i 0)
 unfolding MayAll
-may-at rows e [] h i l = absurd (omega arith)
-may-at rows e (x ∷ w) h zero l = let z : e + 0 ≡ e = omega arith in rw z (h .0)
-may-at rows e (x ∷ w) h (suc i) l = let z : suc e + i ≡ e + suc i = omega arith in rw z at (may-at rows (suc e) w (h .1) i (omega arith))
+may-at may e [] h i l = absurd (omega arith)
+may-at may e (x ∷ w) h zero l = let z : e + 0 ≡ e = omega arith in rw z (h .0)
+may-at may e (x ∷ w) h (suc i) l = let z : suc e + i ≡ e + suc i = omega arith in rw z at (may-at may (suc e) w (h .1) i (omega arith))
 
-may-from : (rows : List ℕ) (e : ℕ) (w : List ℕ) → ((i : ℕ) → i < length w → may rows (getD w i 0) (e + i) ≡ true) → MayAll rows e w
+may-from : (may : ℕ → ℕ → Bool) (e : ℕ) (w : List ℕ) → ((i : ℕ) → i < length w → may (getD w i 0) (e + i) ≡ true) → MayAll may e w
 unfolding MayAll
-may-from rows e [] h = tt
-may-from rows e (x ∷ w) h =
+may-from may e [] h = tt
+may-from may e (x ∷ w) h =
     let z : e + 0 ≡ e = omega arith in
-    (inr (rw z at (h 0 (omega arith))), may-from rows (suc e) w (λ i l. let y : suc e + i ≡ e + suc i = omega arith in rw y (h (suc i) (omega arith))))
+    (inr (rw z at (h 0 (omega arith))), may-from may (suc e) w (λ i l. let y : suc e + i ≡ e + suc i = omega arith in rw y (h (suc i) (omega arith))))
 
 no-spare : (w : List ℕ) (k : ℕ) → k ≤ 255 → ((e : ℕ) → e < length w → getD w e 0 < k) → cnt spare w ≡ 0
 unfolding cnt
@@ -278,65 +278,65 @@ no-spare (x ∷ w) k l h =
     let ih = no-spare w k l (λ e b. h (suc e) (omega arith)) in
     omega arith
 
-module _ (rows : List ℕ) (k n : ℕ) (w : List ℕ) where
-  pub subset-says : MayAll rows 0 w → Within 0 k w → length w ≡ n → ((v : ℕ) → v < k → cnt v w ≤ 1) → cnt spare w ≡ 0 → k ≤ 255 → Fills rows k n w
+module _ (may : ℕ → ℕ → Bool) (k n : ℕ) (w : List ℕ) where
+  pub subset-says : MayAll may 0 w → Within 0 k w → length w ≡ n → ((v : ℕ) → v < k → cnt v w ≤ 1) → cnt spare w ≡ 0 → k ≤ 255 → Fills may k n w
   subset-says r b l o c low = record {
     size = l;
     member = all-given w n k b c l;
-    right = λ e h. ⊎-elim (λ (s : getD w e 0 ≡ 255). let z = all-given w n k b c l e h in absurd (omega arith)) (λ (s : may rows (getD w e 0) (0 + e) ≡ true). rw (zero-add e) at s) (may-at rows 0 w r e (omega arith));
+    right = λ e h. ⊎-elim (λ (s : getD w e 0 ≡ 255). let z = all-given w n k b c l e h in absurd (omega arith)) (λ (s : may (getD w e 0) (0 + e) ≡ true). rw (zero-add e) at s) (may-at may 0 w r e (omega arith));
     once = o;
   }
 
-  pub subset-test : Fills rows k n w → k ≤ 255 → MayAll rows 0 w × (cnt spare w ≡ 0)
+  pub subset-test : Fills may k n w → k ≤ 255 → MayAll may 0 w × (cnt spare w ≡ 0)
   subset-test f low =
       let l = f .size in
-      (may-from rows 0 w (λ i h. rw (zero-add i) (f .right i (omega arith))), no-spare w k low (λ e h. f .member e (omega arith)))
+      (may-from may 0 w (λ i h. rw (zero-add i) (f .right i (omega arith))), no-spare w k low (λ e h. f .member e (omega arith)))
 
 -- ---- any body
 
-unfoldable pub ByBlocks : {L : Type 0} → Body L → List ℕ → ℕ → List ℕ → Type 0
-ByBlocks (recordOf is) rows n w = Cuts rows (blocksOf (recordOf is)) 0 n w
-ByBlocks (setOf g) rows n w = Cuts rows (blocksOf (setOf g)) 0 n w
-ByBlocks (superset es) rows n w = Cuts rows (blocksOf (superset es)) 0 n w
-ByBlocks (subset es) rows n w = Fills rows (length es) n w
+unfoldable pub ByBlocks : {L : Type 0} → Body L → (ℕ → ℕ → Bool) → ℕ → List ℕ → Type 0
+ByBlocks (recordOf is) may n w = Cuts may (blocksOf (recordOf is)) 0 n w
+ByBlocks (setOf g) may n w = Cuts may (blocksOf (setOf g)) 0 n w
+ByBlocks (superset es) may n w = Cuts may (blocksOf (superset es)) 0 n w
+ByBlocks (subset es) may n w = Fills may (length es) n w
 
 -- what is left of the rules once the bytes are right: none twice, and what the kind asks
-module _ {L : Type 0} (rows : List ℕ) (n : ℕ) (w : List ℕ) (short : n ≤ 32) where
-  body-says : (b : Body L) → length (membersOf b) ≤ 32 → MayAll rows 0 w → length w ≡ n → Within 0 (length (membersOf b)) w → noneTwice (length (membersOf b)) w ≡ true → bodyMet b w ≡ true → ByBlocks b rows n w
+module _ {L : Type 0} (may : ℕ → ℕ → Bool) (n : ℕ) (w : List ℕ) (short : n ≤ 32) where
+  body-says : (b : Body L) → length (membersOf b) ≤ 32 → MayAll may 0 w → length w ≡ n → Within 0 (length (membersOf b)) w → noneTwice (length (membersOf b)) w ≡ true → bodyMet b w ≡ true → ByBlocks b may n w
   unfolding ByBlocks blocksOf bodyMet membersOf blockOfGroup membersOfGroup
-  body-says (recordOf is) k r l b t h = let z : 0 + length w ≡ n = omega arith in rw z at (cuts-says rows 0 is w 0 (omega arith) h r)
+  body-says (recordOf is) k r l b t h = let z : 0 + length w ≡ n = omega arith in rw z at (cuts-says may 0 is w 0 (omega arith) h r)
   body-says (setOf (grouped es st)) k r l b t h =
       let p = group-says 0 (grouped es st) w (omega arith) h in
-      whole-cut rows 0 (length es) (Rattle.template.specs.Blocks.minOf st) (Rattle.template.specs.Blocks.maxOf st) n w p r l
+      whole-cut may 0 (length es) (Rattle.template.specs.Blocks.minOf st) (Rattle.template.specs.Blocks.maxOf st) n w p r l
   body-says (superset es) k r l b t h =
       let o = test-once 0 (length es) w h in
       let z = length-once 0 (length es) w (omega arith) b o in
-      whole-cut rows 0 (length es) 0 255 n w (record { within = b; once = o; enough = omega arith; few = omega arith }) r l
-  body-says (subset es) k r l b t h = subset-says rows (length es) n w r b l (twice-says (length es) w t) (eqb-true (cnt spare w) 0 h) (omega arith)
+      whole-cut may 0 (length es) 0 255 n w (record { within = b; once = o; enough = omega arith; few = omega arith }) r l
+  body-says (subset es) k r l b t h = subset-says may (length es) n w r b l (twice-says (length es) w t) (eqb-true (cnt spare w) 0 h) (omega arith)
 
   record BodyTest (b : Body L) : Type 0 where
-    rights : MayAll rows 0 w
+    rights : MayAll may 0 w
     size : length w ≡ n
     none : noneTwice (length (membersOf b)) w ≡ true
     test : bodyMet b w ≡ true
 
-  body-test : (b : Body L) → length (membersOf b) ≤ 32 → ByBlocks b rows n w → BodyTest b
+  body-test : (b : Body L) → length (membersOf b) ≤ 32 → ByBlocks b may n w → BodyTest b
   unfolding ByBlocks blocksOf bodyMet membersOf blockOfGroup membersOfGroup
   body-test (recordOf is) k c =
-      let u = cuts-test rows 0 is 0 n w (omega arith) c in
+      let u = cuts-test may 0 is 0 n w (omega arith) c in
       let z = u .size in
       record { rights = u .rights; size = omega arith; none = twice-test (length (membersOfItems is)) w (λ v l. u .few v (λ e. omega arith)); test = u .test }
   body-test (setOf (grouped es st)) k c =
-      let u = cut-whole rows 0 (length es) (Rattle.template.specs.Blocks.minOf st) (Rattle.template.specs.Blocks.maxOf st) n w c in
+      let u = cut-whole may 0 (length es) (Rattle.template.specs.Blocks.minOf st) (Rattle.template.specs.Blocks.maxOf st) n w c in
       record { rights = u .1; size = u .2; none = twice-test (length es) w (λ v l. once-few 0 (length es) w (u .0 .once) v (omega arith) (omega arith)); test = group-test 0 (grouped es st) w (omega arith) (u .0) }
   body-test (superset es) k c =
-      let u = cut-whole rows 0 (length es) 0 255 n w c in
+      let u = cut-whole may 0 (length es) 0 255 n w c in
       record { rights = u .1; size = u .2; none = twice-test (length es) w (λ v l. once-few 0 (length es) w (u .0 .once) v (omega arith) (omega arith)); test = once-test 0 (length es) w (u .0 .once) }
   body-test (subset es) k f =
-      let u = subset-test rows (length es) n w f (omega arith) in
+      let u = subset-test may (length es) n w f (omega arith) in
       record { rights = u .0; size = f .size; none = twice-test (length es) w (f .once); test = eq-eqb (cnt spare w) 0 (u .1) }
 
-module _ {L X : Type 0} (hits : Elem L → X → Bool) (a : Length) (b : Body L) (rows : List ℕ) (xs : List X) (agree : Agree hits (membersOf b) 0 xs rows) (few : length (membersOf b) ≤ 32) (short : length xs ≤ 32) (w : List ℕ) where
+module _ {L X : Type 0} (hits : Elem L → X → Bool) (a : Length) (b : Body L) (may : ℕ → ℕ → Bool) (xs : List X) (agree : Agree hits (membersOf b) 0 xs may) (few : length (membersOf b) ≤ 32) (short : length xs ≤ 32) (w : List ℕ) where
   abbrev right-bytes : Bool
   right-bytes = rightBytes hits (membersOf b) xs w
 
@@ -344,19 +344,19 @@ module _ {L X : Type 0} (hits : Elem L → X → Bool) (a : Length) (b : Body L)
   none-twice = noneTwice (length (membersOf b)) w
 
   -- an assignment obeys exactly where the length is met and the blocks cut the list, or the members fill it
-  pub obeys-says : obeysBy hits (template a b) xs w ≡ true → ByBlocks b rows (length xs) w × (lengthMet a (length xs) ≡ true)
+  pub obeys-says : obeysBy hits (template a b) xs w ≡ true → ByBlocks b may (length xs) w × (lengthMet a (length xs) ≡ true)
   unfolding obeysBy
   obeys-says h =
       let h₁ = and-right right-bytes (none-twice && (bodyMet b w && lengthMet a (length xs))) h in
       let h₂ = and-right none-twice (bodyMet b w && lengthMet a (length xs)) h₁ in
-      let r = right-says hits (membersOf b) rows 0 xs w agree (and-left right-bytes (none-twice && (bodyMet b w && lengthMet a (length xs))) h) in (
-        body-says rows (length xs) w short b few (r .0) (r .1) (right-within hits (membersOf b) rows 0 xs w agree (r .0) (r .1)) (and-left none-twice (bodyMet b w && lengthMet a (length xs)) h₁) (and-left (bodyMet b w) (lengthMet a (length xs)) h₂),
+      let r = right-says hits (membersOf b) may 0 xs w agree (and-left right-bytes (none-twice && (bodyMet b w && lengthMet a (length xs))) h) in (
+        body-says may (length xs) w short b few (r .0) (r .1) (right-within hits (membersOf b) may 0 xs w agree (r .0) (r .1)) (and-left none-twice (bodyMet b w && lengthMet a (length xs)) h₁) (and-left (bodyMet b w) (lengthMet a (length xs)) h₂),
         and-right (bodyMet b w) (lengthMet a (length xs)) h₂,
       )
 
-  pub obeys-test : ByBlocks b rows (length xs) w → lengthMet a (length xs) ≡ true → obeysBy hits (template a b) xs w ≡ true
+  pub obeys-test : ByBlocks b may (length xs) w → lengthMet a (length xs) ≡ true → obeysBy hits (template a b) xs w ≡ true
   unfolding obeysBy
   obeys-test c m =
-      let u = body-test rows (length xs) w short b few c in
-      both right-bytes (none-twice && (bodyMet b w && lengthMet a (length xs))) (right-test hits (membersOf b) rows 0 xs w agree (u .rights) (u .size))
+      let u = body-test may (length xs) w short b few c in
+      both right-bytes (none-twice && (bodyMet b w && lengthMet a (length xs))) (right-test hits (membersOf b) may 0 xs w agree (u .rights) (u .size))
       (both none-twice (bodyMet b w && lengthMet a (length xs)) (u .none) (both (bodyMet b w) (lengthMet a (length xs)) (u .test) m))

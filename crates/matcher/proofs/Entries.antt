@@ -73,16 +73,16 @@ no-member [] m x l = refl
 no-member (e ∷ es) zero x l = absurd (omega arith)
 no-member (e ∷ es) (suc m) x l = no-member es m x (omega arith)
 
-agree-from : (es : List (Elem Leaf)) (rows : List ℕ) (e : ℕ) (xs : List ℤ) → ((m i : ℕ) → i < length xs → may rows m (e + i) ≡ memberHits matches es m (getD xs i (pos 0))) → Agree matches es e xs rows
+agree-from : (es : List (Elem Leaf)) (related : ℕ → ℕ → Bool) (e : ℕ) (xs : List ℤ) → ((m i : ℕ) → i < length xs → related m (e + i) ≡ memberHits matches es m (getD xs i (pos 0))) → Agree matches es e xs related
 unfolding Agree
-agree-from es rows e [] h = tt
-agree-from es rows e (x ∷ xs) h =
+agree-from es related e [] h = tt
+agree-from es related e (x ∷ xs) h =
     let z : e + 0 ≡ e = omega arith in
-    (λ m. rw z at (h m 0 (omega arith)), agree-from es rows (suc e) xs (λ m i l. let y : suc e + i ≡ e + suc i = omega arith in rw y (h m (suc i) (omega arith))))
+    (λ m. rw z at (h m 0 (omega arith)), agree-from es related (suc e) xs (λ m i l. let y : suc e + i ≡ e + suc i = omega arith in rw y (h m (suc i) (omega arith))))
 
-pub rows-agree : (es : List (Elem Leaf)) (xs : List ℤ) (rows : List ℕ) → RowsOf es xs rows → Agree matches es 0 xs rows
+pub rows-agree : (es : List (Elem Leaf)) (xs : List ℤ) (rows : List ℕ) → RowsOf es xs rows → Agree matches es 0 xs (may rows)
 rows-agree es xs rows r =
-    agree-from es rows 0 xs (λ m i l. rw (zero-add i) (⊎-elim (λ (b : m < length es). r .right m i b l) (λ (b : length es ≤ m). r .noMember m i b ∙ sym (no-member es m (getD xs i (pos 0)) b)) (below? m (length es))))
+    agree-from es (may rows) 0 xs (λ m i l. rw (zero-add i) (⊎-elim (λ (b : m < length es). r .right m i b l) (λ (b : length es ≤ m). r .noMember m i b ∙ sym (no-member es m (getD xs i (pos 0)) b)) (below? m (length es))))
 
 -- ---- the length attribute
 
@@ -93,24 +93,24 @@ length-is (between min max) n l = refl
 
 -- ---- from the blocks to the rules
 
-module _ (a : Length) (b : Body Leaf) (rows : List ℕ) (xs : List ℤ) (agree : Agree matches (membersOf b) 0 xs rows) (few : length (membersOf b) ≤ 32) (short : length xs ≤ 32) where
-  pub best-obeys : (found : Bool) (w : List ℕ) → lengthMet a (length xs) ≡ true → Best (ByBlocks b rows (length xs)) (length xs) found w → Best (Obeys (template a b) xs) (length xs) found w
+module _ (a : Length) (b : Body Leaf) (related : ℕ → ℕ → Bool) (xs : List ℤ) (agree : Agree matches (membersOf b) 0 xs related) (few : length (membersOf b) ≤ 32) (short : length xs ≤ 32) where
+  pub best-obeys : (found : Bool) (w : List ℕ) → lengthMet a (length xs) ≡ true → Best (ByBlocks b related (length xs)) (length xs) found w → Best (Obeys (template a b) xs) (length xs) found w
   best-obeys found w m h = record {
-    best = λ f. first-same (λ v c. obeys-test matches a b rows xs agree few short v c m) (λ v o. obeys-says matches a b rows xs agree few short v o .0) (h .best f);
-    none = λ f v o. h .none f v (obeys-says matches a b rows xs agree few short v o .0);
+    best = λ f. first-same (λ v c. obeys-test matches a b related xs agree few short v c m) (λ v o. obeys-says matches a b related xs agree few short v o .0) (h .best f);
+    none = λ f v o. h .none f v (obeys-says matches a b related xs agree few short v o .0);
     size = h .size;
     outside = h .outside;
     blank = h .blank;
   }
 
-  pub pass-obeys : (w : List ℕ) (r : Bool) → lengthMet a (length xs) ≡ true → Passing (ByBlocks b rows (length xs) w) r → r ≡ obeys (template a b) xs w
+  pub pass-obeys : (w : List ℕ) (r : Bool) → lengthMet a (length xs) ≡ true → Passing (ByBlocks b related (length xs) w) r → r ≡ obeys (template a b) xs w
   pass-obeys w r m h = go r (obeys (template a b) xs w) refl refl
     where
       go : (s t : Bool) → r ≡ s → obeys (template a b) xs w ≡ t → r ≡ obeys (template a b) xs w
       go true true e f = e ∙ sym f
       go false false e f = e ∙ sym f
-      go true false e f = absurd (mathlib.Core.Bool.true≢false (sym (obeys-test matches a b rows xs agree few short w (h .passed e) m) ∙ f))
-      go false true e f = absurd (h .failed e (obeys-says matches a b rows xs agree few short w f .0))
+      go true false e f = absurd (mathlib.Core.Bool.true≢false (sym (obeys-test matches a b related xs agree few short w (h .passed e) m) ∙ f))
+      go false true e f = absurd (h .failed e (obeys-says matches a b related xs agree few short w f .0))
 
 -- a length that is not met leaves no assignment
 module _ (a : Length) (b : Body Leaf) (xs : List ℤ) where
@@ -247,19 +247,19 @@ copy-length w room i a b =
 -- ---- by the plan
 
 -- a body that is no subset is cut by its blocks; a subset is filled by its members
-cut-body : (b : Body Leaf) (rows : List ℕ) (n : ℕ) (P : (List ℕ → Type 0) → Type 0) → isSubset b ≡ false → P (Cuts rows (blocksOf b) 0 n) → P (ByBlocks b rows n)
+cut-body : (b : Body Leaf) (related : ℕ → ℕ → Bool) (n : ℕ) (P : (List ℕ → Type 0) → Type 0) → isSubset b ≡ false → P (Cuts related (blocksOf b) 0 n) → P (ByBlocks b related n)
 unfolding isSubset ByBlocks
-cut-body (recordOf is) rows n P e h = h
-cut-body (setOf g) rows n P e h = h
-cut-body (superset es) rows n P e h = h
-cut-body (subset es) rows n P e h = absurd (mathlib.Core.Bool.true≢false e)
+cut-body (recordOf is) related n P e h = h
+cut-body (setOf g) related n P e h = h
+cut-body (superset es) related n P e h = h
+cut-body (subset es) related n P e h = absurd (mathlib.Core.Bool.true≢false e)
 
-fill-body : (b : Body Leaf) (rows : List ℕ) (n : ℕ) (P : (List ℕ → Type 0) → Type 0) → isSubset b ≡ true → P (Fills rows (length (membersOf b)) n) → P (ByBlocks b rows n)
+fill-body : (b : Body Leaf) (related : ℕ → ℕ → Bool) (n : ℕ) (P : (List ℕ → Type 0) → Type 0) → isSubset b ≡ true → P (Fills related (length (membersOf b)) n) → P (ByBlocks b related n)
 unfolding isSubset ByBlocks membersOf
-fill-body (recordOf is) rows n P e h = absurd (mathlib.Core.Bool.true≢false (sym e))
-fill-body (setOf g) rows n P e h = absurd (mathlib.Core.Bool.true≢false (sym e))
-fill-body (superset es) rows n P e h = absurd (mathlib.Core.Bool.true≢false (sym e))
-fill-body (subset es) rows n P e h = h
+fill-body (recordOf is) related n P e h = absurd (mathlib.Core.Bool.true≢false (sym e))
+fill-body (setOf g) related n P e h = absurd (mathlib.Core.Bool.true≢false (sym e))
+fill-body (superset es) related n P e h = absurd (mathlib.Core.Bool.true≢false (sym e))
+fill-body (subset es) related n P e h = h
 
 module _ (t : List ℕ) (p : Plan) (xs : List ℤ) (short : length xs ≤ 32) (met : Bool) (says : met ≡ (leb (p .low) (length xs) && leb (length xs) (p .high))) where
   length-by : (a : Length) (b : Body Leaf) → Planned t a b p → met ≡ lengthMet a (length xs)
@@ -272,32 +272,32 @@ module _ (t : List ℕ) (p : Plan) (xs : List ℤ) (short : length xs ≤ 32) (m
   unmet-passes w e a b pl = pass-none a b xs w (sym (length-by a b pl) ∙ e)
 
   module _ (rows : List ℕ) (right : (es : List (Elem Leaf)) → Standing t es (take (p .members) (p .places)) → RowsOf es xs rows) (m : met ≡ true) where
-    agrees : (a : Length) (b : Body Leaf) → Planned t a b p → Agree matches (membersOf b) 0 xs rows
+    agrees : (a : Length) (b : Body Leaf) → Planned t a b p → Agree matches (membersOf b) 0 xs (may rows)
     agrees a b pl = rows-agree (membersOf b) xs rows (right (membersOf b) (pl .stands))
 
     few : (a : Length) (b : Body Leaf) → Planned t a b p → length (membersOf b) ≤ 32
     few a b pl = let s = pl .size in let f = pl .fewMembers in omega arith
 
-    pub cut-first : (found : Bool) (w : List ℕ) → p .subset ≡ false → Best (Cuts rows (take (p .count) (p .blocks)) 0 (length xs)) (length xs) found w → FirstBy t p xs found w
+    pub cut-first : (found : Bool) (w : List ℕ) → p .subset ≡ false → Best (Cuts (may rows) (take (p .count) (p .blocks)) 0 (length xs)) (length xs) found w → FirstBy t p xs found w
     cut-first found w k h a b pl =
-        best-obeys a b rows xs (agrees a b pl) (few a b pl) short found w (sym (length-by a b pl) ∙ m)
-        (cut-body b rows (length xs) (λ Q. Best Q (length xs) found w) (sym (pl .kind) ∙ k) (rw (pl .cut) at h))
+        best-obeys a b (may rows) xs (agrees a b pl) (few a b pl) short found w (sym (length-by a b pl) ∙ m)
+        (cut-body b (may rows) (length xs) (λ Q. Best Q (length xs) found w) (sym (pl .kind) ∙ k) (rw (pl .cut) at h))
 
-    pub fill-first : (found : Bool) (w : List ℕ) → p .subset ≡ true → Best (Fills rows (p .members) (length xs)) (length xs) found w → FirstBy t p xs found w
+    pub fill-first : (found : Bool) (w : List ℕ) → p .subset ≡ true → Best (Fills (may rows) (p .members) (length xs)) (length xs) found w → FirstBy t p xs found w
     fill-first found w k h a b pl =
-        best-obeys a b rows xs (agrees a b pl) (few a b pl) short found w (sym (length-by a b pl) ∙ m)
-        (fill-body b rows (length xs) (λ Q. Best Q (length xs) found w) (sym (pl .kind) ∙ k) (rw (pl .size) at h))
+        best-obeys a b (may rows) xs (agrees a b pl) (few a b pl) short found w (sym (length-by a b pl) ∙ m)
+        (fill-body b (may rows) (length xs) (λ Q. Best Q (length xs) found w) (sym (pl .kind) ∙ k) (rw (pl .size) at h))
 
     module _ (w : List ℕ) (size : length w ≡ length xs) (r : Bool) where
-      pub cut-passed : p .subset ≡ false → Passing (Cuts rows (take (p .count) (p .blocks)) 0 (length w) w) r → PassedBy t p xs w r
+      pub cut-passed : p .subset ≡ false → Passing (Cuts (may rows) (take (p .count) (p .blocks)) 0 (length w) w) r → PassedBy t p xs w r
       cut-passed k h a b pl =
-          pass-obeys a b rows xs (agrees a b pl) (few a b pl) short w r (sym (length-by a b pl) ∙ m)
-          (cut-body b rows (length xs) (λ Q. Passing (Q w) r) (sym (pl .kind) ∙ k) (rw (pl .cut, size) at h))
+          pass-obeys a b (may rows) xs (agrees a b pl) (few a b pl) short w r (sym (length-by a b pl) ∙ m)
+          (cut-body b (may rows) (length xs) (λ Q. Passing (Q w) r) (sym (pl .kind) ∙ k) (rw (pl .cut, size) at h))
 
-      pub fill-passed : p .subset ≡ true → Passing (Fills rows (p .members) (length w) w) r → PassedBy t p xs w r
+      pub fill-passed : p .subset ≡ true → Passing (Fills (may rows) (p .members) (length w) w) r → PassedBy t p xs w r
       fill-passed k h a b pl =
-          pass-obeys a b rows xs (agrees a b pl) (few a b pl) short w r (sym (length-by a b pl) ∙ m)
-          (fill-body b rows (length xs) (λ Q. Passing (Q w) r) (sym (pl .kind) ∙ k) (rw (pl .size, size) at h))
+          pass-obeys a b (may rows) xs (agrees a b pl) (few a b pl) short w r (sym (length-by a b pl) ∙ m)
+          (fill-body b (may rows) (length xs) (λ Q. Passing (Q w) r) (sym (pl .kind) ∙ k) (rw (pl .size, size) at h))
 
 pub ready-inside : (t : List ℕ) (p : Plan) (n : ℕ) → Ready t p n → (p .count ≤ 32) × Inside (take (p .count) (p .blocks))
 ready-inside t p n r =

@@ -1,10 +1,10 @@
 -- Each item is its block: what document 01 says of the piece that an item takes is what `cuts` says of its block. Assumes nothing.
--- MayAll rows e w <-> every byte of w is spare, or a member that may take its element, the first of which is e
+-- MayAll may e w <-> every byte of w is spare, or a member that may take its element, the first of which is e
 -- Within m k p    <-> every byte of p is spare, or one of the members m .. m + k - 1
 -- Once m k p      <-> each of these members stands in p exactly once
 -- Piece m k min max p <-> the shape of a piece of the block: its members and spares, each member once, min to max spares
 use mathlib.Core.Path.{_≡_, refl, sym, _∙_}
-use mathlib.Core.Bool.{true, _&&_, _||_}
+use mathlib.Core.Bool.{Bool, true, _&&_, _||_}
 use mathlib.Core.Logic.{_⊎_, inl, inr, ⊎-elim}
 use mathlib.Core.List.{List, [], _∷_, _++_}
 use Prim.Native.Nat.{ℕ, zero, suc, _+_, _-_, _≤_, _<_}
@@ -12,7 +12,7 @@ use native.Mathlib.Omega.{arith}
 use borrow.Author.Tests.{eqb-true, eq-eqb, leb-true, le-leb}
 use lib.Dec.{eqb, leb}
 use lib.ListN.{length}
-use Rattle.masks.specs.Rows.{may, between, cnt}
+use Rattle.masks.specs.Rows.{between, cnt}
 use Rattle.assign.specs.Assignment.{takes, allRight, allOnce, assigns}
 use Rattle.masks.proofs.Lemmas.{and-left, and-right, both, one-of, or-left, or-right, between-in, between-from, between-to, hit, miss, same?}
 use Rattle.assign.proofs.Assignments.{assigns-test, test-assigns, once-test, test-once}
@@ -21,12 +21,12 @@ use Rattle.template.specs.Template.{Star, noStar, star, Group, grouped, Item, o
 use Rattle.template.specs.Blocks.{minOf, maxOf, block, blockOfGroup, blockOfItem}
 use Rattle.matcher.specs.Obeys.{spare, allSpare, withinBlock, starMet, groupTakes, itemTakes}
 
-abbrev pub MayByte : List ℕ → ℕ → ℕ → Type 0
-MayByte rows e b = (b ≡ 255) ⊎ (may rows b e ≡ true)
+abbrev pub MayByte : (ℕ → ℕ → Bool) → ℕ → ℕ → Type 0
+MayByte may e b = (b ≡ 255) ⊎ (may b e ≡ true)
 
-unfoldable pub MayAll : List ℕ → ℕ → List ℕ → Type 0
-MayAll rows e [] = Unit {0}
-MayAll rows e (b ∷ w) = MayByte rows e b × MayAll rows (suc e) w
+unfoldable pub MayAll : (ℕ → ℕ → Bool) → ℕ → List ℕ → Type 0
+MayAll may e [] = Unit {0}
+MayAll may e (b ∷ w) = MayByte may e b × MayAll may (suc e) w
 
 abbrev pub OneOf : ℕ → ℕ → ℕ → Type 0
 OneOf m k b = (b ≡ 255) ⊎ ((m ≤ b) × (b < m + k))
@@ -40,18 +40,18 @@ Once m k p = (v : ℕ) → m ≤ v → v < m + k → cnt v p ≡ 1
 
 -- ---- over a concatenation
 
-module _ (rows : List ℕ) where
-  pub may-append : (e : ℕ) (p q : List ℕ) → MayAll rows e p → MayAll rows (e + length p) q → MayAll rows e (p ++ q)
+module _ (may : ℕ → ℕ → Bool) where
+  pub may-append : (e : ℕ) (p q : List ℕ) → MayAll may e p → MayAll may (e + length p) q → MayAll may e (p ++ q)
   unfolding MayAll
   may-append e [] q a b = let z : e + 0 ≡ e = omega arith in rw z at b
   may-append e (x ∷ p) q a b = let z : suc e + length p ≡ e + suc (length p) = omega arith in (a .0, may-append (suc e) p q (a .1) (rw z b))
 
-  pub may-left : (e : ℕ) (p q : List ℕ) → MayAll rows e (p ++ q) → MayAll rows e p
+  pub may-left : (e : ℕ) (p q : List ℕ) → MayAll may e (p ++ q) → MayAll may e p
   unfolding MayAll
   may-left e [] q a = tt
   may-left e (x ∷ p) q a = (a .0, may-left (suc e) p q (a .1))
 
-  pub may-right : (e : ℕ) (p q : List ℕ) → MayAll rows e (p ++ q) → MayAll rows (e + length p) q
+  pub may-right : (e : ℕ) (p q : List ℕ) → MayAll may e (p ++ q) → MayAll may (e + length p) q
   unfolding MayAll
   may-right e [] q a = let z : e + 0 ≡ e = omega arith in rw z a
   may-right e (x ∷ p) q a = let z : suc e + length p ≡ e + suc (length p) = omega arith in rw z at (may-right (suc e) p q (a .1))
@@ -78,34 +78,34 @@ module _ (m k : ℕ) where
 
 -- ---- a right byte is one of the block, and may take its element
 
-module _ (rows : List ℕ) (m k : ℕ) where
-  split-byte : (x e : ℕ) → takes rows m k e x ≡ true → OneOf m k x × MayByte rows e x
+module _ (may : ℕ → ℕ → Bool) (m k : ℕ) where
+  split-byte : (x e : ℕ) → takes may m k e x ≡ true → OneOf m k x × MayByte may e x
   unfolding takes
   split-byte x e h =
       ⊎-elim
       (λ (s : eqb x 255 ≡ true). (inl (eqb-true x 255 s), inl (eqb-true x 255 s)))
-      (λ (s : (between m (m + k) x && may rows x e) ≡ true).
-      let b = and-left (between m (m + k) x) (may rows x e) s in
-      (inr (between-from m (m + k) x b, between-to m (m + k) x b), inr (and-right (between m (m + k) x) (may rows x e) s)))
-      (one-of (eqb x 255) (between m (m + k) x && may rows x e) h)
+      (λ (s : (between m (m + k) x && may x e) ≡ true).
+      let b = and-left (between m (m + k) x) (may x e) s in
+      (inr (between-from m (m + k) x b, between-to m (m + k) x b), inr (and-right (between m (m + k) x) (may x e) s)))
+      (one-of (eqb x 255) (between m (m + k) x && may x e) h)
 
-  join-byte : (x e : ℕ) → OneOf m k x → MayByte rows e x → takes rows m k e x ≡ true
+  join-byte : (x e : ℕ) → OneOf m k x → MayByte may e x → takes may m k e x ≡ true
   unfolding takes
-  join-byte x e a b = ⊎-elim (λ (s : x ≡ 255). or-left (eqb x 255) (between m (m + k) x && may rows x e) (eq-eqb x 255 s)) (λ s. ⊎-elim (λ (r : x ≡ 255). or-left (eqb x 255) (between m (m + k) x && may rows x e) (eq-eqb x 255 r))
-      (λ (r : may rows x e ≡ true). or-right (eqb x 255) (between m (m + k) x && may rows x e) (both (between m (m + k) x) (may rows x e) (between-in m (m + k) x (s .0) (s .1)) r)) b) a
+  join-byte x e a b = ⊎-elim (λ (s : x ≡ 255). or-left (eqb x 255) (between m (m + k) x && may x e) (eq-eqb x 255 s)) (λ s. ⊎-elim (λ (r : x ≡ 255). or-left (eqb x 255) (between m (m + k) x && may x e) (eq-eqb x 255 r))
+      (λ (r : may x e ≡ true). or-right (eqb x 255) (between m (m + k) x && may x e) (both (between m (m + k) x) (may x e) (between-in m (m + k) x (s .0) (s .1)) r)) b) a
 
-  right-split : (e : ℕ) (p : List ℕ) → allRight rows m k e p ≡ true → Within m k p × MayAll rows e p
+  right-split : (e : ℕ) (p : List ℕ) → allRight may m k e p ≡ true → Within m k p × MayAll may e p
   unfolding allRight Within MayAll
   right-split e [] h = (tt, tt)
   right-split e (x ∷ p) h =
-      let v = split-byte x e (and-left (takes rows m k e x) (allRight rows m k (suc e) p) h) in
-      let u = right-split (suc e) p (and-right (takes rows m k e x) (allRight rows m k (suc e) p) h) in
+      let v = split-byte x e (and-left (takes may m k e x) (allRight may m k (suc e) p) h) in
+      let u = right-split (suc e) p (and-right (takes may m k e x) (allRight may m k (suc e) p) h) in
       ((v .0, u .0), (v .1, u .1))
 
-  right-join : (e : ℕ) (p : List ℕ) → Within m k p → MayAll rows e p → allRight rows m k e p ≡ true
+  right-join : (e : ℕ) (p : List ℕ) → Within m k p → MayAll may e p → allRight may m k e p ≡ true
   unfolding allRight Within MayAll
   right-join e [] a b = refl
-  right-join e (x ∷ p) a b = both (takes rows m k e x) (allRight rows m k (suc e) p) (join-byte x e (a .0) (b .0)) (right-join (suc e) p (a .1) (b .1))
+  right-join e (x ∷ p) a b = both (takes may m k e x) (allRight may m k (suc e) p) (join-byte x e (a .0) (b .0)) (right-join (suc e) p (a .1) (b .1))
 
 -- ---- counting a piece: its members and its spares are all that it has
 
@@ -190,24 +190,24 @@ pub record Piece (m k min max : ℕ) (p : List ℕ) : Type 0 where
   pub enough : k + min ≤ length p
   pub few : length p ≤ k + max
 
-module _ (rows : List ℕ) (m k min max from to : ℕ) (p : List ℕ) where
-  pub takes-piece : from ≤ to → Takes rows (block m k min max) from to p → Piece m k min max p × MayAll rows from p × (from + length p ≡ to)
+module _ (may : ℕ → ℕ → Bool) (m k min max from to : ℕ) (p : List ℕ) where
+  pub takes-piece : from ≤ to → Takes may (block m k min max) from to p → Piece m k min max p × MayAll may from p × (from + length p ≡ to)
   unfolding assigns
   takes-piece l t =
       let a = assigns-test (t .assigned) in
-      let r = right-split rows m k from p (and-left (allRight rows m k from p) (allOnce m k p) a) in
+      let r = right-split may m k from p (and-left (allRight may m k from p) (allOnce m k p) a) in
       let s = t .assigned .size in
       let e = t .enough in
       let f = t .few in
-      (record { within = r .0; once = test-once m k p (and-right (allRight rows m k from p) (allOnce m k p) a); enough = omega arith; few = omega arith }, r .1, omega arith)
+      (record { within = r .0; once = test-once m k p (and-right (allRight may m k from p) (allOnce m k p) a); enough = omega arith; few = omega arith }, r .1, omega arith)
 
-  pub piece-takes : Piece m k min max p → MayAll rows from p → from + length p ≡ to → Takes rows (block m k min max) from to p
+  pub piece-takes : Piece m k min max p → MayAll may from p → from + length p ≡ to → Takes may (block m k min max) from to p
   unfolding assigns
   piece-takes c r e =
       let x = c .enough in
       let y = c .few in
       record {
-        assigned = test-assigns (omega arith) (both (allRight rows m k from p) (allOnce m k p) (right-join rows m k from p (c .within) r) (once-test m k p (c .once)));
+        assigned = test-assigns (omega arith) (both (allRight may m k from p) (allOnce m k p) (right-join may m k from p (c .within) r) (once-test m k p (c .once)));
         enough = omega arith;
         few = omega arith;
       }

@@ -7,7 +7,7 @@ use Prim.Native.Nat.{ℕ, _+_, _≤_, _<_}
 use native.Mathlib.Omega.{arith}
 use lib.ListN.{length, getD, take, drop, take-append-drop}
 use lib.Seq.{take-length}
-use Rattle.masks.specs.Rows.{bit, may, between, oneIf, cnt, Plus}
+use Rattle.masks.specs.Rows.{bit, between, oneIf, cnt, Plus}
 use Rattle.assign.specs.Assignment.{takes}
 use Rattle.masks.proofs.Lemmas.{same?, holds?, between-in, between-to, hit}
 use Rattle.assign.proofs.Counting.{cnt-append}
@@ -19,15 +19,15 @@ use Rattle.passes.specs.Reach.{Fresh, Good}
 use Rattle.passes.proofs.Seen.{good-start, good-member, cnt-more}
 
 -- ---- the offered list, byte by byte
-pub record Full (rows : List ℕ) (b : Block) (e : ℕ) (w : List ℕ) (members : ℕ) : Type 0 where
-  pub good : Good rows b 0 e w members
+pub record Full (may : ℕ → ℕ → Bool) (b : Block) (e : ℕ) (w : List ℕ) (members : ℕ) : Type 0 where
+  pub good : Good may b 0 e w members
   pub low : (i : ℕ) → i < e → getD w i 0 < b .k
 
-pub full-start : (rows : List ℕ) (b : Block) (w : List ℕ) → Full rows b 0 w 0
-full-start rows b w = record { good = good-start rows b 0 w; low = λ i l. absurd (omega arith) }
+pub full-start : (may : ℕ → ℕ → Bool) (b : Block) (w : List ℕ) → Full may b 0 w 0
+full-start may b w = record { good = good-start may b 0 w; low = λ i l. absurd (omega arith) }
 
-module _ {rows : List ℕ} {b : Block} {e : ℕ} {w : List ℕ} {members : ℕ} (zeroth : b .first ≡ 0) (l : e < length w) (g : Full rows b e w members) where
-  pub full-step : {more : ℕ} → Fresh rows b members e (getD w e 0) → Plus (bit members) (getD w e 0) (bit more) → Full rows b (e + 1) w more
+module _ {may : ℕ → ℕ → Bool} {b : Block} {e : ℕ} {w : List ℕ} {members : ℕ} (zeroth : b .first ≡ 0) (l : e < length w) (g : Full may b e w members) where
+  pub full-step : {more : ℕ} → Fresh may b members e (getD w e 0) → Plus (bit members) (getD w e 0) (bit more) → Full may b (e + 1) w more
   full-step {more} f p = record {
     good = good-member (omega arith) l (g .good) f p;
     low = λ i h. ⊎-elim
@@ -39,7 +39,7 @@ module _ {rows : List ℕ} {b : Block} {e : ℕ} {w : List ℕ} {members : ℕ} 
         (same? i e);
   }
 
-  pub full-stop : {r : Bool} → b .k ≤ 32 → Passing (Fresh rows b members e (getD w e 0)) r → r ≡ false → Passing (Fills rows (b .k) (length w) w) false
+  pub full-stop : {r : Bool} → b .k ≤ 32 → Passing (Fresh may b members e (getD w e 0)) r → r ≡ false → Passing (Fills may (b .k) (length w) w) false
   full-stop {r} few p q = passing-false (λ f.
       let x = getD w e 0 in
       let y = f .member e l in
@@ -57,16 +57,16 @@ module _ {rows : List ℕ} {b : Block} {e : ℕ} {w : List ℕ} {members : ℕ} 
       p .failed q (record { inside = between-in (b .first) (b .first + b .k) x (omega arith) (omega arith); right = f .right e l; new = t }))
       (holds? (bit members x)))
 
-pub full-end : {rows : List ℕ} {b : Block} {w : List ℕ} {members : ℕ} → b .first ≡ 0 → b .k ≤ 32 → Full rows b (length w) w members → Passing (Fills rows (b .k) (length w) w) true
-full-end {rows} {b} {w} {members} z few g = passing-true (record {
+pub full-end : {may : ℕ → ℕ → Bool} {b : Block} {w : List ℕ} {members : ℕ} → b .first ≡ 0 → b .k ≤ 32 → Full may b (length w) w members → Passing (Fills may (b .k) (length w) w) true
+full-end {may} {b} {w} {members} z few g = passing-true (record {
   size = refl;
   member = g .low;
   right = λ e l.
       let x = getD w e 0 in
       let y = g .low e l in
-      let t : takes rows (b .first) (b .k) e x ≡ true =
-      subst (λ (j : ℕ). takes rows (b .first) (b .k) j (getD w j 0) ≡ true) (let q : 0 + e ≡ e = omega arith in q) (g .good .right e (omega arith)) in
-      ⊎-elim (λ (q : x ≡ 255). absurd (omega arith)) (λ (q : (between (b .first) (b .first + b .k) x ≡ true) × (may rows x e ≡ true)). q .1) (takes-inv rows (b .first) (b .k) e x t);
+      let t : takes may (b .first) (b .k) e x ≡ true =
+      subst (λ (j : ℕ). takes may (b .first) (b .k) j (getD w j 0) ≡ true) (let q : 0 + e ≡ e = omega arith in q) (g .good .right e (omega arith)) in
+      ⊎-elim (λ (q : x ≡ 255). absurd (omega arith)) (λ (q : (between (b .first) (b .first + b .k) x ≡ true) × (may x e ≡ true)). q .1) (takes-inv may (b .first) (b .k) e x t);
   once = λ m l.
       let c = g .good .counted m (omega arith) in
       let q = ap (λ (v : List ℕ). cnt m v) (take-length w) in

@@ -9,7 +9,7 @@ use native.Mathlib.Omega.{arith}
 use lib.Dec.{eqb}
 use lib.ListN.{length, getD}
 use lib.Seq.{slice, slice-empty, slice-cons, length-slice}
-use Rattle.masks.specs.Rows.{bit, may, between, oneIf, cnt, Plus}
+use Rattle.masks.specs.Rows.{bit, between, oneIf, cnt, Plus}
 use Rattle.assign.specs.Assignment.{takes, Assigns}
 use Rattle.masks.proofs.Lemmas.{same?, holds?, clash, between-in, between-from, between-to, hit, miss}
 use Rattle.assign.proofs.Counting.{cnt-append}
@@ -23,17 +23,17 @@ use Rattle.passes.specs.Reach.{Fresh, Good, Group, Whole}
 use Rattle.cuts.proofs.Laws.{passing-false, slice-split}
 
 -- ---- one byte
-module _ {rows : List ℕ} {b : Block} {members e x : ℕ} where
-  pub fresh-low : x < b .first → Passing (Fresh rows b members e x) false
+module _ {may : ℕ → ℕ → Bool} {b : Block} {members e x : ℕ} where
+  pub fresh-low : x < b .first → Passing (Fresh may b members e x) false
   fresh-low l = passing-false (λ f. let y = between-from (b .first) (b .first + b .k) x (f .inside) in omega arith)
 
-  pub fresh-high : b .first + b .k ≤ x → Passing (Fresh rows b members e x) false
+  pub fresh-high : b .first + b .k ≤ x → Passing (Fresh may b members e x) false
   fresh-high l = passing-false (λ f. let y = between-to (b .first) (b .first + b .k) x (f .inside) in omega arith)
 
-  pub fresh-old : bit members x ≡ true → Passing (Fresh rows b members e x) false
+  pub fresh-old : bit members x ≡ true → Passing (Fresh may b members e x) false
   fresh-old h = passing-false (λ f. clash h (f .new))
 
-  pub fresh-may : {r : Bool} → b .first ≤ x → x < b .first + b .k → bit members x ≡ false → r ≡ may rows x e → Passing (Fresh rows b members e x) r
+  pub fresh-may : {r : Bool} → b .first ≤ x → x < b .first + b .k → bit members x ≡ false → r ≡ may x e → Passing (Fresh may b members e x) r
   fresh-may f t n q = record {
     passed = λ h. record { inside = between-in (b .first) (b .first + b .k) x f t; right = sym q ∙ h; new = n };
     failed = λ h y. clash (y .right) (sym q ∙ h);
@@ -57,24 +57,24 @@ cnt-more m from e w f l =
     let o = one-byte m (getD w e 0) in
     ap (λ (x : List ℕ). cnt m x) (slice-more from e w f l) ∙ omega arith
 
-pub good-start : (rows : List ℕ) (b : Block) (from : ℕ) (w : List ℕ) → Good rows b from from w 0
+pub good-start : (may : ℕ → ℕ → Bool) (b : Block) (from : ℕ) (w : List ℕ) → Good may b from from w 0
 unfolding cnt
-good-start rows b from w = record {
+good-start may b from w = record {
   right = λ i l. absurd (omega arith);
   counted = λ m l. ap (λ (x : List ℕ). cnt m x) (slice-empty from w) ∙ sym (ap oneIf (bit-none m));
   inside = λ m h. absurd (clash h (bit-none m));
 }
 
-module _ {rows : List ℕ} {b : Block} {from e : ℕ} {w : List ℕ} {members : ℕ} (f : from ≤ e) (l : e < length w) (g : Good rows b from e w members) where
-  right-more : takes rows (b .first) (b .k) e (getD w e 0) ≡ true → (i : ℕ) → i < (e + 1) - from → takes rows (b .first) (b .k) (from + i) (getD w (from + i) 0) ≡ true
+module _ {may : ℕ → ℕ → Bool} {b : Block} {from e : ℕ} {w : List ℕ} {members : ℕ} (f : from ≤ e) (l : e < length w) (g : Good may b from e w members) where
+  right-more : takes may (b .first) (b .k) e (getD w e 0) ≡ true → (i : ℕ) → i < (e + 1) - from → takes may (b .first) (b .k) (from + i) (getD w (from + i) 0) ≡ true
   right-more h i k = ⊎-elim
-      (λ (q : from + i ≡ e). subst (λ (j : ℕ). takes rows (b .first) (b .k) j (getD w j 0) ≡ true) (sym q) h)
+      (λ (q : from + i ≡ e). subst (λ (j : ℕ). takes may (b .first) (b .k) j (getD w j 0) ≡ true) (sym q) h)
       (λ (q : from + i ≡ e → ⊥). g .right i (omega arith))
       (same? (from + i) e)
 
-  pub good-spare : getD w e 0 ≡ 255 → Good rows b from (e + 1) w members
+  pub good-spare : getD w e 0 ≡ 255 → Good may b from (e + 1) w members
   good-spare q = record {
-    right = right-more (takes-spare rows (b .first) (b .k) e (getD w e 0) q);
+    right = right-more (takes-spare may (b .first) (b .k) e (getD w e 0) q);
     counted = λ m k.
         let c = cnt-more m from e w f l in
         let z = miss (getD w e 0) m (λ p. omega arith) in
@@ -83,9 +83,9 @@ module _ {rows : List ℕ} {b : Block} {from e : ℕ} {w : List ℕ} {members : 
     inside = g .inside;
   }
 
-  pub good-member : {more : ℕ} → Fresh rows b members e (getD w e 0) → Plus (bit members) (getD w e 0) (bit more) → Good rows b from (e + 1) w more
+  pub good-member : {more : ℕ} → Fresh may b members e (getD w e 0) → Plus (bit members) (getD w e 0) (bit more) → Good may b from (e + 1) w more
   good-member {more} h p = record {
-    right = right-more (takes-member rows (b .first) (b .k) e (getD w e 0) (h .inside) (h .right));
+    right = right-more (takes-member may (b .first) (b .k) e (getD w e 0) (h .inside) (h .right));
     counted = λ m k.
         let c = cnt-more m from e w f l in
         let y = g .counted m k in
@@ -107,18 +107,18 @@ module _ {rows : List ℕ} {b : Block} {from e : ℕ} {w : List ℕ} {members : 
   }
 
   -- a byte that is neither 255 nor a new member: no assignment
-  pub good-stop : {to : ℕ} → e < to → to ≤ length w → (getD w e 0 ≡ 255 → ⊥) → b .first + b .k ≤ 32 → Passing (Fresh rows b members e (getD w e 0)) false
-      → Assigns rows (b .first) (b .k) from to (slice from to w) → ⊥
+  pub good-stop : {to : ℕ} → e < to → to ≤ length w → (getD w e 0 ≡ 255 → ⊥) → b .first + b .k ≤ 32 → Passing (Fresh may b members e (getD w e 0)) false
+      → Assigns may (b .first) (b .k) from to (slice from to w) → ⊥
   good-stop {to} lt end n block old a =
       let x = getD w e 0 in
       let long = length-slice from to w end in
       let i = e - from in
       let q : from + i ≡ e = omega arith in
       let at : getD (slice from to w) i 0 ≡ x = slice-at from to w i (omega arith) ∙ ap (λ (j : ℕ). getD w j 0) q in
-      let t : takes rows (b .first) (b .k) e x ≡ true =
-      subst (λ (j : ℕ). takes rows (b .first) (b .k) j x ≡ true) q (subst (λ (y : ℕ). takes rows (b .first) (b .k) (from + i) y ≡ true) at (a .right i (omega arith))) in
+      let t : takes may (b .first) (b .k) e x ≡ true =
+      subst (λ (j : ℕ). takes may (b .first) (b .k) j x ≡ true) q (subst (λ (y : ℕ). takes may (b .first) (b .k) (from + i) y ≡ true) at (a .right i (omega arith))) in
       ⊎-elim n
-      (λ (s : (between (b .first) (b .first + b .k) x ≡ true) × (may rows x e ≡ true)).
+      (λ (s : (between (b .first) (b .first + b .k) x ≡ true) × (may x e ≡ true)).
       let y = between-from (b .first) (b .first + b .k) x (s .0) in
       let z = between-to (b .first) (b .first + b .k) x (s .0) in
       let stands : bit members x ≡ true = ⊎-elim
@@ -133,25 +133,25 @@ module _ {rows : List ℕ} {b : Block} {from e : ℕ} {w : List ℕ} {members : 
       let sum = cnt-append x (slice from (e + 1) w) (slice (e + 1) to w) in
       let one = a .once x y z in
       omega arith)
-      (takes-inv rows (b .first) (b .k) e x t)
+      (takes-inv may (b .first) (b .k) e x t)
 
-pub fresh-below : {rows : List ℕ} {b : Block} {members e x : ℕ} → b .first + b .k ≤ 32 → Fresh rows b members e x → x < 32
-fresh-below {rows} {b} {members} {e} {x} block f = let z = between-to (b .first) (b .first + b .k) x (f .inside) in omega arith
+pub fresh-below : {may : ℕ → ℕ → Bool} {b : Block} {members e x : ℕ} → b .first + b .k ≤ 32 → Fresh may b members e x → x < 32
+fresh-below {may} {b} {members} {e} {x} block f = let z = between-to (b .first) (b .first + b .k) x (f .inside) in omega arith
 
 -- ---- the whole piece
-module _ {rows : List ℕ} {b : Block} {from to : ℕ} {w : List ℕ} {members : ℕ} (block : b .first + b .k ≤ 32) (end : to ≤ length w) (g : Good rows b from to w members) where
-  good-assigns : ((m : ℕ) → b .first ≤ m → m < b .first + b .k → bit members m ≡ true) → Assigns rows (b .first) (b .k) from to (slice from to w)
+module _ {may : ℕ → ℕ → Bool} {b : Block} {from to : ℕ} {w : List ℕ} {members : ℕ} (block : b .first + b .k ≤ 32) (end : to ≤ length w) (g : Good may b from to w members) where
+  good-assigns : ((m : ℕ) → b .first ≤ m → m < b .first + b .k → bit members m ≡ true) → Assigns may (b .first) (b .k) from to (slice from to w)
   good-assigns h =
       let long = length-slice from to w end in
       record {
         size = long;
         right = λ i l.
             let at : getD (slice from to w) i 0 ≡ getD w (from + i) 0 = slice-at from to w i (omega arith) in
-            subst (λ (x : ℕ). takes rows (b .first) (b .k) (from + i) x ≡ true) (sym at) (g .right i (omega arith));
+            subst (λ (x : ℕ). takes may (b .first) (b .k) (from + i) x ≡ true) (sym at) (g .right i (omega arith));
         once = λ m f u. g .counted m (omega arith) ∙ ap oneIf (h m f u);
       }
 
-  assigns-good : Assigns rows (b .first) (b .k) from to (slice from to w) → (m : ℕ) → b .first ≤ m → m < b .first + b .k → bit members m ≡ true
+  assigns-good : Assigns may (b .first) (b .k) from to (slice from to w) → (m : ℕ) → b .first ≤ m → m < b .first + b .k → bit members m ≡ true
   assigns-good a m f u = ⊎-elim
       (λ (o : bit members m ≡ true). o)
       (λ (o : bit members m ≡ false).
@@ -170,12 +170,12 @@ module _ {rows : List ℕ} {b : Block} {from to : ℕ} {w : List ℕ} {members :
       ⊎-elim (λ (o : bit members m ≡ true). absurd (clash (g .inside m o) t)) (λ (o : bit members m ≡ false). o ∙ sym (a .at m ∙ t)) (holds? (bit members m)))
       (holds? (between (b .first) (b .first + b .k) m)))
 
-  pub whole-takes : {all : ℕ} → Group b all → to - from ≤ b .k + b .max → Whole b all members from to → Takes rows b from to (slice from to w)
+  pub whole-takes : {all : ℕ} → Group b all → to - from ≤ b .k + b .max → Whole b all members from to → Takes may b from to (slice from to w)
   whole-takes {all} a few h = record {
     assigned = good-assigns (λ m f u. ap (λ (x : ℕ). bit x m) (h .complete) ∙ a .at m ∙ between-in (b .first) (b .first + b .k) m f u);
     enough = h .enough;
     few = few;
   }
 
-  pub takes-whole : {all : ℕ} → Group b all → Takes rows b from to (slice from to w) → Whole b all members from to
+  pub takes-whole : {all : ℕ} → Group b all → Takes may b from to (slice from to w) → Whole b all members from to
   takes-whole a t = record { complete = complete a (assigns-good (t .assigned)); enough = t .enough }

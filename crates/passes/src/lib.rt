@@ -1,6 +1,7 @@
 // Tests of offered lists: is this a cut, is this a filling. They share the definitions and the rows with the search of `cuts`, and nothing else.
 ghost use Prim.Native.Nat.{_≤_};
 ghost use lib.ListN.{take, length};
+ghost use Rattle.masks.specs.Rows.{may};
 ghost use Rattle.cuts.specs.Cut.{Inside, Cuts, Fills, Passing};
 use blocks::Block;
 use masks::with;
@@ -16,7 +17,7 @@ const SPARE: u8 = 255;
 // Whether w is a cut by the first `count` blocks of as many elements as it has bytes.
 pub fn cut_passes(rows: &[u32; 32], blocks: [Block; 32], count: usize, w: &[u8]) -> bool
     requires { ⌜ (count ≤ 32) × (length (now w) ≤ 32) × Inside (take count blocks) ⌝ }
-    ensures { λ r. ⌜ Passing (Cuts (now (rows .entry)) (take count blocks) 0 (length (now (w .entry))) (now (w .entry))) r ⌝ }
+    ensures { λ r. ⌜ Passing (Cuts (may (now (rows .entry))) (take count blocks) 0 (length (now (w .entry))) (now (w .entry))) r ⌝ }
 {
     let mut reach = reach::start();
     let mut j = 0;
@@ -32,7 +33,7 @@ pub fn cut_passes(rows: &[u32; 32], blocks: [Block; 32], count: usize, w: &[u8])
 // Whether w gives each of as many elements as it has bytes a member below k that may take it, and no member twice.
 pub fn filling_passes(rows: &[u32; 32], k: u8, w: &[u8]) -> bool
     requires { ⌜ (k ≤ 32) × (length (now w) ≤ 32) ⌝ }
-    ensures { λ r. ⌜ Passing (Fills (now (rows .entry)) k (length (now (w .entry))) (now (w .entry))) r ⌝ }
+    ensures { λ r. ⌜ Passing (Fills (may (now (rows .entry))) k (length (now (w .entry))) (now (w .entry))) r ⌝ }
 {
     let b = Block {
         first: 0,

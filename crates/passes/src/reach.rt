@@ -1,8 +1,10 @@
 // The places that the blocks so far reach in an offered list. It shares the rows with the search, and nothing else.
+ghost use mathlib.Core.Bool.{Bool};
 ghost use mathlib.Core.Path.{_≡_};
 ghost use mathlib.Core.List.{List, [], _∷_, _++_};
 ghost use Prim.Native.Nat.{ℕ, _+_, _≤_, _<_, min};
 ghost use lib.ListN.{length};
+ghost use Rattle.masks.specs.Rows.{may};
 ghost use Rattle.blocks.specs.declared.Block.{Block as BlockOf};
 ghost use Rattle.cuts.specs.Cut.{Passing};
 ghost use Rattle.passes.specs.Reach.{Reached, Fresh, Group, Whole, Marked, Ends};
@@ -18,7 +20,7 @@ use masks::with;
 // Whether x is a member of the block that may take e, and is not among the members yet.
 pub fn fresh(rows: &[u32; 32], b: Block, members: u32, e: u8, x: u8) -> bool
     requires { ⌜ (b .first + b .k ≤ 32) × (e < 32) ⌝ }
-    ensures { λ r. ⌜ Passing (Fresh (now (rows .entry)) b members e x) r ⌝ }
+    ensures { λ r. ⌜ Passing (Fresh (may (now (rows .entry))) b members e x) r ⌝ }
 {
     if x < b.first {
         return false;
@@ -67,7 +69,7 @@ fn mark(b: Block, all: u32, members: u32, from: usize, to: usize, ends: u64) -> 
 // The ends, with each place at which a piece of b that begins at `from` ends: one walk, as far as the bytes are right.
 fn piece_ends(rows: &[u32; 32], b: Block, all: u32, w: &[u8], from: usize, ends: u64) -> u64
     requires { ⌜ (b .first + b .k ≤ 32) × Group b all × (from ≤ length (now w)) × (length (now w) ≤ 32) ⌝ }
-    ensures { λ r. ⌜ Ends (now (rows .entry)) b from (length (now (w .entry)) + 1) (now (w .entry)) ends r ⌝ }
+    ensures { λ r. ⌜ Ends (may (now (rows .entry))) b from (length (now (w .entry)) + 1) (now (w .entry)) ends r ⌝ }
 {
     let furthest = last_end(b, from, w.len());
     let mut found = ends;
@@ -90,7 +92,7 @@ fn piece_ends(rows: &[u32; 32], b: Block, all: u32, w: &[u8], from: usize, ends:
 // The places that are reached with one block more.
 pub fn extend(rows: &[u32; 32], b: Block, reach: u64, w: &[u8]) -> u64
     requires { ⌜ (b .first + b .k ≤ 32) × (length (now w) ≤ 32) ⌝ }
-    ensures { λ r. ⌜ ((bs : List BlockOf) → Reached (now (rows .entry)) bs (now (w .entry)) reach → Reached (now (rows .entry)) (bs ++ (b ∷ [])) (now (w .entry)) r) ⌝ }
+    ensures { λ r. ⌜ ((bs : List BlockOf) → Reached (may (now (rows .entry))) bs (now (w .entry)) reach → Reached (may (now (rows .entry))) (bs ++ (b ∷ [])) (now (w .entry)) r) ⌝ }
 {
     let all = members_of(b);
     let mut next: u64 = 0;
@@ -106,7 +108,7 @@ pub fn extend(rows: &[u32; 32], b: Block, reach: u64, w: &[u8]) -> u64
 
 // With no blocks the place 0 is reached, and no other.
 pub fn start() -> u64
-    ensures { λ r. ⌜ ((rows w : List ℕ) → Reached rows [] w r) ⌝ }
+    ensures { λ r. ⌜ ((may : ℕ → ℕ → Bool) (w : List ℕ) → Reached may [] w r) ⌝ }
 {
     with_place(0, 0)
 }

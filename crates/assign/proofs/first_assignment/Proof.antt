@@ -3,6 +3,7 @@
 use mathlib.Core.Path.{sym, subst}
 use mathlib.Core.Bool.{Bool}
 use borrow.Author.Tests.{not-true, not-false}
+use Rattle.masks.specs.Rows.{may}
 use Rattle.assign.specs.Assignment.{Answer}
 use Rattle.assign.proofs.Pieces.{answer-found, answer-none, leads-none}
 use Rattle.assign.proofs.Deals.{dealt-empty}
@@ -27,7 +28,7 @@ returns-2 c =
     let p = start .pre in
     let s = called .saturate in
     let f = not-true _ (c .if2 .taken) in
-    subst (λ (t : Bool). Answer (a .rows .now) (a .first) (a .k) (a .from) (a .to) t (s .result .w)) (sym f)
+    subst (λ (t : Bool). Answer (may (a .rows .now)) (a .first) (a .k) (a .from) (a .to) t (s .result .w)) (sym f)
     (answer-none (p .0) (p .1) (p .2) (s .ensures .blank f) (s .ensures .short f))
 
 refine-requires : tie.Need-refine-requires

@@ -5,6 +5,7 @@ use Prim.Native.Nat.{_-_, _≤_, _<_}
 use native.Mathlib.Omega.{arith}
 use lib.ListN.{length, take, drop}
 use borrow.Author.Needs.{needs}
+use Rattle.masks.specs.Rows.{may}
 use Rattle.blocks.specs.declared.Block.{Block}
 use Rattle.cuts.specs.declared.Suffix.{Suffix}
 use Rattle.cuts.specs.Cut.{Cuts}
@@ -24,7 +25,7 @@ no-block = record { first = 0; k = 0; min = 0; max = 0 }
 
 abbrev Inv-loop : tie.InvT-loop
 Inv-loop rows count n blocks to low₀ high₀ t₀ j₀ low high t j = (length blocks ≡ 32) × (j ≤ count)
-    × (low ≡ together shortest (take j blocks)) × (high ≡ together longest (take j blocks)) × Tabled rows (drop j (take count blocks)) to low high t
+    × (low ≡ together shortest (take j blocks)) × (high ≡ together longest (take j blocks)) × Tabled (may rows) (drop j (take count blocks)) to low high t
 
 abbrev μ-loop : tie.MeasureT-loop
 μ-loop rows count n blocks to low₀ high₀ t₀ j₀ low high t j = j
@@ -93,7 +94,7 @@ prepend-requires c κs =
     let a = l .before .before .before .args in
     let p = l .before .before .before .pre in
     let i = l .loop .inv in
-    (cut-inside (a .rows .now) (a .t2) (a .count) (a .n) (i .0) (p .0) _ _ (omega arith) (p .2), p .1, i .4 .size)
+    (cut-inside (may (a .rows .now)) (a .t2) (a .count) (a .n) (i .0) (p .0) _ _ (omega arith) (p .2), p .1, i .4 .size)
 
 loop-less : tie.Need-loop-less Inv-loop μ-loop
 loop-less c = omega arith
@@ -112,7 +113,7 @@ loop-again c =
       omega arith,
       omega (arith, i .2),
       omega (arith, i .3),
-      cut-step (a .rows .now) (a .t2) (a .count) (a .n) (i .0) (p .0) no-block j (j - 1) (omega arith) (i .1) (omega (arith, i .2)) (omega (arith, i .3)) (c .prepend .ensures) (i .4),
+      cut-step (may (a .rows .now)) (a .t2) (a .count) (a .n) (i .0) (p .0) no-block j (j - 1) (omega arith) (i .1) (omega (arith, i .2)) (omega (arith, i .3)) (c .prepend .ensures) (i .4),
     )
 
 read-requires : tie.Need-read-requires Inv-loop μ-loop
@@ -127,7 +128,7 @@ returns c =
     let s = together-none shortest (a .t2) in
     let lowest : l .loop .low ≡ 0 = i .2 ∙ rw q s in
     let g = rw q at (i .4) in
-    let at-front : Suffix → Type 0 = λ s. Given (Cuts (a .rows .now) (take (a .count) (a .t2)) 0 (a .n)) 0 (a .n) s in
+    let at-front : Suffix → Type 0 = λ s. Given (Cuts (may (a .rows .now)) (take (a .count) (a .t2)) 0 (a .n)) 0 (a .n) s in
     cut-end _ (take (a .count) (a .t2)) (subst at-front (sym (c .before .read .ensures)) (g .at 0 (omega arith) (omega arith) (omega arith)))
 
 pub first-cut-spec : {M : Type 1} → statement M

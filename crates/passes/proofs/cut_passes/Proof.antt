@@ -5,6 +5,7 @@ use Prim.Native.Nat.{_-_, _≤_}
 use native.Mathlib.Omega.{arith}
 use lib.ListN.{length, take}
 use borrow.Author.Needs.{needs}
+use Rattle.masks.specs.Rows.{may}
 use Rattle.passes.specs.Reach.{Reached}
 use Rattle.cuts.proofs.Tables.{cut-inside}
 use Rattle.passes.proofs.Reaches.{reached-more, reached-end}
@@ -17,7 +18,7 @@ use Rattle.passes.proofs.reach.extend.Reads as extend-reads
 use Rattle.passes.proofs.reach.start.Reads as start-reads
 
 abbrev Inv-loop : tie.InvT-loop
-Inv-loop rows count w blocks reach₀ j₀ reach j = (length blocks ≡ 32) × (j ≤ count) × Reached rows (take j blocks) w reach
+Inv-loop rows count w blocks reach₀ j₀ reach j = (length blocks ≡ 32) × (j ≤ count) × Reached (may rows) (take j blocks) w reach
 
 abbrev μ-loop : tie.MeasureT-loop
 μ-loop rows count w blocks reach₀ j₀ reach j = count - j
@@ -37,7 +38,7 @@ array-copy-out-b c = omega arith
 extend-requires : tie.Need-extend-requires Inv-loop μ-loop
 extend-requires c κs =
     let a = c .before .before .before .before .before .args in
-    let i = c .before .before .loop .inv in (cut-inside (a .rows .now) (a .t2) (a .count) 0 (i .0) (c .before .before .before .before .before .pre .0) _ _ (c .before .loop-test .taken) (c .before .before .before .before .before .pre .2), c .before .before .before .before .before .pre .1)
+    let i = c .before .before .loop .inv in (cut-inside (may (a .rows .now)) (a .t2) (a .count) 0 (i .0) (c .before .before .before .before .before .pre .0) _ _ (c .before .loop-test .taken) (c .before .before .before .before .before .pre .2), c .before .before .before .before .before .pre .1)
 
 add-j : tie.Need-add-j Inv-loop μ-loop
 add-j c = omega arith

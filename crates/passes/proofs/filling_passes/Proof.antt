@@ -5,6 +5,7 @@ use Prim.Native.Nat.{_-_, _≤_}
 use native.Mathlib.Omega.{arith}
 use lib.ListN.{length}
 use borrow.Author.Tests.{not-true, not-false}
+use Rattle.masks.specs.Rows.{may}
 use Rattle.passes.proofs.Seen.{fresh-below}
 use Rattle.passes.proofs.Fulls.{Full, full-start, full-step, full-stop, full-end}
 use Rattle.passes.proofs.filling_passes.Statement.{statement}
@@ -15,7 +16,7 @@ use Rattle.masks.proofs.with.Reads as with-reads
 use Rattle.passes.proofs.reach.fresh.Reads as fresh-reads
 
 abbrev Inv-loop : tie.InvT-loop
-Inv-loop rows k w b members₀ e₀ members e = (e ≤ length w) × Full rows b e w members
+Inv-loop rows k w b members₀ e₀ members e = (e ≤ length w) × Full (may rows) b e w members
 
 abbrev μ-loop : tie.MeasureT-loop
 μ-loop rows k w b members₀ e₀ members e = length w - e

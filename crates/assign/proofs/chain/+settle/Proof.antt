@@ -54,7 +54,7 @@ calls t = (
 )
 
 abbrev Inv : lts.InvT-loop
-Inv rows free held m visited w row seen₀ left₀ seen left = Walk rows (bit free) (bit held) (bit visited) (bit seen) (bit left) w m
+Inv rows free held m visited w row seen₀ left₀ seen left = Walk (may rows) (bit free) (bit held) (bit visited) (bit seen) (bit left) w m
 
 abbrev μ : lts.MeasureT-loop
 μ rows free held m visited w row seen₀ left₀ seen left = count (bit left) 32
@@ -86,7 +86,7 @@ returns t c =
     let bits = row-bits (a .rows .now) (a .m) (picked .choices .result) (picked .choices .ensures) (a .free) e (found .inside) in
     settled-found (c .give .ensures)
     (give-spare e (size t start) (start .pre .1 .member) (found .low)
-    (reach-free (a .rows .now) (bit (a .free)) (bit (a .held)) (a .m) e (bits .0) (bits .1)) (start .pre .1 .free _ (bits .1)))
+    (reach-free (may (a .rows .now)) (bit (a .free)) (bit (a .held)) (a .m) e (bits .0) (bits .1)) (start .pre .1 .free _ (bits .1)))
     (filled-spare e (size t start) (start .pre .1 .member) (found .low) (bits .1))
 
 loop-holds : (t : ℕ) → lts.Need-loop-holds (calls t) (at t) settle.Post Inv μ

@@ -6,7 +6,7 @@ use Prim.Native.Nat.{ℕ, _+_, _-_, _<_, _≤_}
 use native.Mathlib.Omega.{arith}
 use lib.ListN.{getD}
 use borrow.Author.Needs.{needs}
-use Rattle.masks.specs.Rows.{bit}
+use Rattle.masks.specs.Rows.{bit, may}
 use Rattle.assign.specs.Refine.{Rivals}
 use Rattle.masks.proofs.Lemmas.{clash}
 use Rattle.masks.proofs.Masks.{bit-none}
@@ -15,7 +15,7 @@ use Rattle.assign.proofs.refine.rivals.Statement.{statement}
 use Rattle.assign.proofs.refine.rivals.Tie as tie
 
 abbrev Inv-loop : tie.InvT-loop
-Inv-loop rows to e w bound found₀ p₀ found p = (e < p) × (p ≤ to) × Rivals rows w e p (bit found)
+Inv-loop rows to e w bound found₀ p₀ found p = (e < p) × (p ≤ to) × Rivals (may rows) w e p (bit found)
 
 abbrev μ-loop : tie.MeasureT-loop
 μ-loop rows to e w bound found₀ p₀ found p = to - p
@@ -62,7 +62,7 @@ loop-again c =
     let i = l .loop .inv in
     let m = getD (a .t3) (l .loop .p) 0 in
     let b = l .before .least .ensures in
-    let again : ℕ → Type 0 = λ found. Rivals (a .rows .now) (a .t3) (a .e) (l .loop .p + 1) (bit found) in (
+    let again : ℕ → Type 0 = λ found. Rivals (may (a .rows .now)) (a .t3) (a .e) (l .loop .p + 1) (bit found) in (
       omega arith,
       omega arith,
       ⊎-elim

@@ -4,7 +4,7 @@ use mathlib.Core.Path.{_≡_, refl}
 use Prim.Native.Nat.{_-_, _<_, _≤_}
 use native.Mathlib.Omega.{arith}
 use borrow.Author.Tests.{not-true, not-false}
-use Rattle.masks.specs.Rows.{bit}
+use Rattle.masks.specs.Rows.{bit, may}
 use Rattle.assign.specs.Chain.{Opened}
 use Rattle.assign.specs.Saturate.{Dealt}
 use Rattle.masks.proofs.Lemmas.{clash, between-to}
@@ -15,7 +15,7 @@ use Rattle.assign.proofs.saturate.saturate.Statement.{statement}
 use Rattle.assign.proofs.saturate.saturate.Tie as tie
 
 abbrev Inv-loop : tie.InvT-loop
-Inv-loop rows first k from to w₀ free₀ held₀ j₀ w free held j = (j ≤ k) × Dealt rows first j from to w × Opened w from to (bit free) (bit held)
+Inv-loop rows first k from to w₀ free₀ held₀ j₀ w free held j = (j ≤ k) × Dealt (may rows) first j from to w × Opened w from to (bit free) (bit held)
 
 abbrev μ-loop : tie.MeasureT-loop
 μ-loop rows first k from to w₀ free₀ held₀ j₀ w free held j = k - j

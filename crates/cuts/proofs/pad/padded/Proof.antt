@@ -51,7 +51,7 @@ loop-again c = let i = c .before .before .before .loop .inv in (omega arith, i .
 
 returns : tie.Need-returns Inv-loop μ-loop
 returns c =
-    let q : c .before .loop .m ≡ c .before .before .before .args .k = omega arith in let g = rw q at (c .before .loop .inv .2) in record { size = g .size; each = λ m e l. g .each m e l }
+    let q : c .before .loop .m ≡ c .before .before .before .args .k = omega arith in let g = rw q at (c .before .loop .inv .2) in record { each = λ m e l u. g .each m e l }
 
 pub padded-spec : {M : Type 1} → statement M
 padded-spec =

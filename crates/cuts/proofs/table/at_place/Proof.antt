@@ -5,6 +5,7 @@ use mathlib.Core.List.{List}
 use Prim.Native.Nat.{_+_, _-_, _≤_, min}
 use native.Mathlib.Omega.{arith}
 use borrow.Author.Needs.{needs}
+use Rattle.masks.specs.Rows.{may}
 use Rattle.blocks.specs.declared.Block.{Block}
 use Rattle.cuts.specs.declared.Suffix.{Suffix}
 use Rattle.cuts.specs.Cut.{Cuts}
@@ -21,7 +22,7 @@ use Rattle.cuts.proofs.table.lesser.Reads as lesser-reads
 
 abbrev Inv-loop : tie.InvT-loop
 Inv-loop rows b t from n best₀ last to₀ best to = (from + b .k + b .min ≤ to) × (last ≡ min (from + b .k + b .max) n)
-    × ((bs : List Block) → Tabled rows bs n (from + shortest b) (from + longest b) t → Given (CutBefore rows b (onward rows bs n) from n to) from n best)
+    × ((bs : List Block) → Tabled (may rows) bs n (from + shortest b) (from + longest b) t → Given (CutBefore (may rows) b (onward (may rows) bs n) from n to) from n best)
 
 abbrev μ-loop : tie.MeasureT-loop
 μ-loop rows b t from n best₀ last to₀ best to = (last + 1) - to
@@ -84,7 +85,7 @@ loop-again c =
       i .1,
       λ bs g. place-step _ _ bs _ _ _ (omega arith) (omega arith) (i .2 bs g)
           (c .before .joined .ensures bs _ (omega arith) (p .2)
-          (subst (λ (s : Suffix). Given (Cuts (a .rows .now) bs to (a .n)) to (a .n) s) (sym (c .before .before .read .ensures)) (g .at to (omega arith) (omega arith) (omega arith))))
+          (subst (λ (s : Suffix). Given (Cuts (may (a .rows .now)) bs to (a .n)) to (a .n) s) (sym (c .before .before .read .ensures)) (g .at to (omega arith) (omega arith) (omega arith))))
           (c .keep .ensures),
     )
 

@@ -5,6 +5,7 @@ use mathlib.Core.List.{List}
 use Prim.Native.Nat.{_+_, _-_, _≤_}
 use native.Mathlib.Omega.{arith}
 use lib.ListN.{length}
+use Rattle.masks.specs.Rows.{may}
 use Rattle.blocks.specs.declared.Block.{Block}
 use Rattle.cuts.specs.Table.{Tabled, shortest, longest}
 use Rattle.cuts.proofs.Tables.{Walked, walk-start, walk-table, walk-step, walk-end}
@@ -17,7 +18,7 @@ use Rattle.cuts.proofs.table.at_place.Reads as at-place-reads
 
 abbrev Inv-loop : tie.InvT-loop
 Inv-loop rows b t₀ low high n from₀ t from = (low ≤ from) × (length t ≡ 1089)
-    × ((bs : List Block) → Tabled rows bs n (low + shortest b) (high + longest b) t₀ → Walked rows b bs n low high from t)
+    × ((bs : List Block) → Tabled (may rows) bs n (low + shortest b) (high + longest b) t₀ → Walked (may rows) b bs n low high from t)
 
 abbrev μ-loop : tie.MeasureT-loop
 μ-loop rows b t₀ low high n from₀ t from = (high + 1) - from

@@ -7,6 +7,7 @@ use Prim.Native.Nat.{_+_, _-_, _≤_}
 use native.Mathlib.Omega.{arith}
 use lib.ListN.{length}
 use borrow.Author.Needs.{needs}
+use Rattle.masks.specs.Rows.{may}
 use Rattle.blocks.specs.declared.Block.{Block}
 use Rattle.cuts.specs.declared.Suffix.{Suffix}
 use Rattle.cuts.specs.Cut.{Cuts}
@@ -22,7 +23,7 @@ use Rattle.cuts.proofs.joins.joined.Reads as joined-reads
 
 abbrev Inv-loop : tie.InvT-loop
 Inv-loop rows b t₀ low high n w size from₀ t from = (size ≡ b .k + b .min) × (low ≤ from) × (length t ≡ 1089)
-    × ((bs : List Block) → Tabled rows bs n (low + shortest b) (high + longest b) t₀ → Walked rows b bs n low high from t)
+    × ((bs : List Block) → Tabled (may rows) bs n (low + shortest b) (high + longest b) t₀ → Walked (may rows) b bs n low high from t)
 
 abbrev μ-loop : tie.MeasureT-loop
 μ-loop rows b t₀ low high n w size from₀ t from = (high + 1) - from
@@ -72,12 +73,12 @@ loop-again c =
       λ bs g.
           let h = i .3 bs g in
           let to = l .from + (a .b .k + a .b .min) in
-          let here : Suffix → Type 0 = λ s. Given (Cuts (a .rows .now) (a .b ∷ bs) (l .from) (a .n)) (l .from) (a .n) s in
-          let rest : Suffix → Type 0 = λ s. Given (Cuts (a .rows .now) bs to (a .n)) to (a .n) s in
+          let here : Suffix → Type 0 = λ s. Given (Cuts (may (a .rows .now)) (a .b ∷ bs) (l .from) (a .n)) (l .from) (a .n) s in
+          let rest : Suffix → Type 0 = λ s. Given (Cuts (may (a .rows .now)) bs to (a .n)) to (a .n) s in
           walk-step (p .2) h (c .write .ensures) (⊎-elim
-          (λ v. subst here (sym (v .4)) (even-end (a .rows .now) (a .b) bs (l .from) (a .n) (p .4) to refl (v .0 .taken)
+          (λ v. subst here (sym (v .4)) (even-end (may (a .rows .now)) (a .b) bs (l .from) (a .n) (p .4) to refl (v .0 .taken)
           (v .3 .ensures bs (a .n) (v .0 .taken) (p .2) (subst rest (sym (v .2 .ensures)) (h .todo to (omega arith) (omega arith) (omega arith) (v .0 .taken))))))
-          (λ v. subst here (sym (v .1)) (even-none (a .rows .now) (a .b) bs (l .from) (a .n) (p .4) to refl (v .0 .left)))
+          (λ v. subst here (sym (v .1)) (even-none (may (a .rows .now)) (a .b) bs (l .from) (a .n) (p .4) to refl (v .0 .left)))
           (c .before .before .if1 .came)),
     )
 

@@ -1,6 +1,7 @@
 -- `prepend_open` meets its contract. The invariant: the places from `from` on have the new block, and `best` is what the last of them has.
 -- The measure is the number of places left. Assumes nothing.
 use mathlib.Core.Path.{_≡_, refl, sym, ap, subst}
+use mathlib.Core.Bool.{Bool}
 use mathlib.Core.Logic.{⊎-elim}
 use mathlib.Core.List.{List, _∷_}
 use Prim.Native.Nat.{ℕ, _+_, _-_, _≤_}
@@ -22,7 +23,7 @@ use Rattle.cuts.proofs.joins.keep.Reads as keep-reads
 
 abbrev Inv-loop : tie.InvT-loop
 Inv-loop t₀ low n least best₀ old from₀ t best from = (from ≤ n + 1) × (length t ≡ 1089)
-    × ((b : Block) (rows : List ℕ) (bs : List Block) (high : ℕ) → b .k ≡ 0 → n ≤ b .max → least ≡ b .min → Tabled rows bs n (low + shortest b) (high + longest b) old → Opened rows b bs n from best t)
+    × ((b : Block) (may : ℕ → ℕ → Bool) (bs : List Block) (high : ℕ) → b .k ≡ 0 → n ≤ b .max → least ≡ b .min → Tabled may bs n (low + shortest b) (high + longest b) old → Opened may b bs n from best t)
 
 abbrev μ-loop : tie.MeasureT-loop
 μ-loop t₀ low n least best₀ old from₀ t best from = from
@@ -34,7 +35,7 @@ add-from : tie.Need-add-from Inv-loop μ-loop
 add-from c = omega arith
 
 loop-holds : tie.Need-loop-holds Inv-loop μ-loop
-loop-holds c = (omega arith, c .before .before .pre .3, λ b rows bs high z wide q g. opened-start rows b bs _ _)
+loop-holds c = (omega arith, c .before .before .pre .3, λ b may bs high z wide q g. opened-start may b bs _ _)
 
 sub-from : tie.Need-sub-from Inv-loop μ-loop
 sub-from c = omega arith
@@ -62,16 +63,16 @@ loop-again c =
     let i = l .inv in (
       omega arith,
       c .write .ensures .size,
-      λ b rows bs high z wide q g.
-          let h = i .2 b rows bs high z wide q g in
+      λ b may bs high z wide q g.
+          let h = i .2 b may bs high z wide q g in
           let f = l .from - 1 in
           let to = f + a .b .min in
-          let here : Suffix → Type 0 = λ s. Given (Cuts rows (b ∷ bs) f (a .n)) f (a .n) s in
-          let rest : Suffix → Type 0 = λ s. Given (Cuts rows bs to (a .n)) to (a .n) s in
+          let here : Suffix → Type 0 = λ s. Given (Cuts may (b ∷ bs) f (a .n)) f (a .n) s in
+          let rest : Suffix → Type 0 = λ s. Given (Cuts may bs to (a .n)) to (a .n) s in
           opened-step f (l .from) (omega arith) (p .2) h (c .write .ensures) (⊎-elim
-          (λ v. subst here (sym (v .4)) (open-step rows b bs f (a .n) z wide to (l .from) (ap (λ (x : ℕ). f + x) q) (omega arith) (omega arith) (p .2) (v .0 .taken) (h .last)
+          (λ v. subst here (sym (v .4)) (open-step may b bs f (a .n) z wide to (l .from) (ap (λ (x : ℕ). f + x) q) (omega arith) (omega arith) (p .2) (v .0 .taken) (h .last)
           (subst rest (sym (v .2 .ensures)) (g .at to (omega arith) (omega arith) (v .0 .taken))) (v .3 .ensures)))
-          (λ v. subst here (sym (v .1)) (open-short rows b bs f (a .n) z wide to (l .from) (ap (λ (x : ℕ). f + x) q) (omega arith) (omega arith) (p .2) (v .0 .left) (h .last)))
+          (λ v. subst here (sym (v .1)) (open-short may b bs f (a .n) z wide to (l .from) (ap (λ (x : ℕ). f + x) q) (omega arith) (omega arith) (p .2) (v .0 .left) (h .last)))
           (c .before .before .if1 .came)),
     )
 
@@ -80,9 +81,9 @@ returns c =
     let a = c .before .before .before .before .args in
     let p = c .before .before .before .before .pre in
     let i = c .before .loop .inv in
-    λ rows high. record {
+    λ may high. record {
       size = i .1;
-      more = λ bs g. let h = i .2 (a .b) rows bs high (p .0) (p .1) refl g in record { size = i .1; at = λ j f l k. h .at j (omega arith) k };
+      more = λ bs g. let h = i .2 (a .b) may bs high (p .0) (p .1) refl g in record { size = i .1; at = λ j f l k. h .at j (omega arith) k };
     }
 
 pub prepend-open-spec : {M : Type 1} → statement M

@@ -6,6 +6,7 @@ use Prim.Native.Nat.{ℕ, _+_, _-_, _≤_}
 use native.Mathlib.Omega.{arith}
 use lib.ListN.{length}
 use borrow.Author.Needs.{needs}
+use Rattle.masks.specs.Rows.{may}
 use Rattle.passes.proofs.Reaches.{Extended, extended-start, extended-skip, extended-step, extended-end}
 use Rattle.passes.proofs.reach.extend.Statement.{statement}
 use Rattle.passes.proofs.reach.extend.Tie as tie
@@ -16,7 +17,7 @@ use Rattle.passes.proofs.reach.members_of.Reads as members-of-reads
 use Rattle.passes.proofs.reach.piece_ends.Reads as piece-ends-reads
 
 abbrev Inv-loop : tie.InvT-loop
-Inv-loop rows b reach w all next₀ from₀ next from = (from ≤ length w + 1) × Extended rows b reach w from next
+Inv-loop rows b reach w all next₀ from₀ next from = (from ≤ length w + 1) × Extended (may rows) b reach w from next
 
 abbrev μ-loop : tie.MeasureT-loop
 μ-loop rows b reach w all next₀ from₀ next from = (length w + 1) - from
@@ -43,7 +44,7 @@ loop-again : tie.Need-loop-again Inv-loop μ-loop
 loop-again c =
     let a = c .before .before .before .before .before .before .args in
     let l = c .before .before .before .loop in
-    let again : ℕ → Type 0 = λ next. Extended (a .rows .now) (a .b) (a .reach) (a .w .now) (l .from + 1) next in
+    let again : ℕ → Type 0 = λ next. Extended (may (a .rows .now)) (a .b) (a .reach) (a .w .now) (l .from + 1) next in
     let test = c .before .has-place .ensures in (
       omega arith,
       ⊎-elim

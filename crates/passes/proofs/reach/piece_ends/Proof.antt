@@ -6,6 +6,7 @@ use Prim.Native.Nat.{ℕ, _+_, _-_, _≤_, _<_, min}
 use native.Mathlib.Omega.{arith}
 use lib.ListN.{length}
 use borrow.Author.Tests.{not-true, not-false}
+use Rattle.masks.specs.Rows.{may}
 use Rattle.passes.specs.Reach.{Good, Ends}
 use Rattle.passes.proofs.Seen.{good-start, good-spare, good-member, fresh-below}
 use Rattle.passes.proofs.Walks.{ends-start, ends-mark, ends-stop, ends-last}
@@ -20,7 +21,7 @@ use Rattle.passes.proofs.reach.mark.Reads as mark-reads
 
 abbrev Inv-loop : tie.InvT-loop
 Inv-loop rows b all w from ends furthest found₀ members₀ to₀ found members to =
-    (furthest ≡ min (from + b .k + b .max) (length w)) × (from ≤ to) × (to ≤ furthest) × Good rows b from to w members × Ends rows b from to w ends found
+    (furthest ≡ min (from + b .k + b .max) (length w)) × (from ≤ to) × (to ≤ furthest) × Good (may rows) b from to w members × Ends (may rows) b from to w ends found
 
 abbrev μ-loop : tie.MeasureT-loop
 μ-loop rows b all w from ends furthest found₀ members₀ to₀ found members to = furthest - to
@@ -38,7 +39,7 @@ mark-requires c κs = (c .before .loop .inv .1, omega arith)
 marked-here : (c : tie.After-mark Inv-loop μ-loop)
     → let a = c .before .before .before .before .before .args in
     let l = c .before .before .loop in
-    Ends (a .rows .now) (a .b) (a .from) (l .to + 1) (a .w .now) (a .ends) (c .mark .result)
+    Ends (may (a .rows .now)) (a .b) (a .from) (l .to + 1) (a .w .now) (a .ends) (c .mark .result)
 marked-here c =
     let p = c .before .before .before .before .before .pre in
     let i = c .before .before .loop .inv in
@@ -73,7 +74,7 @@ loop-again c =
     let l = c .before .before .before .before .loop in
     let i = l .inv in
     let inside : l .to < length (a .w .now) = omega arith in
-    let again : ℕ → Type 0 = λ members. Good (a .rows .now) (a .b) (a .from) (l .to + 1) (a .w .now) members in (
+    let again : ℕ → Type 0 = λ members. Good (may (a .rows .now)) (a .b) (a .from) (l .to + 1) (a .w .now) members in (
       i .0,
       omega arith,
       omega arith,
