@@ -1,20 +1,21 @@
 -- Assignments as 32 bytes: the members served one by one, and one exchange. Assumes nothing.
 use mathlib.Core.Path.{_≡_, refl, sym, ap, _∙_, subst}
 use mathlib.Core.Logic.{_⊎_, inl, inr, ⊎-elim}
-use mathlib.Core.Bool.{Bool, true}
+use mathlib.Core.Bool.{Bool, true, false, not}
 use mathlib.Core.List.{List}
-use Prim.Native.Nat.{ℕ, _+_, _-_, _≤_, _<_}
+use Prim.Native.Nat.{ℕ, _+_, _≤_, _<_}
 use native.Mathlib.Omega.{arith}
 use lib.Dec.{eqb}
 use lib.ListN.{length, getD, set, replicate, length-set, length-replicate, getD-replicate}
 use lib.Seq.{getD-set-same, getD-set-other}
 use Rattle.masks.specs.Rows.{oneIf, between, cnt}
+use Rattle.masks.specs.Visit.{Flipped}
 use Rattle.assign.specs.Assignment.{Short}
 use Rattle.assign.specs.Chain.{within, Served, Blocked}
-use Rattle.assign.specs.Saturate.{fits, Dealt}
+use Rattle.assign.specs.Saturate.{fits, Partly, Dealt}
 use Rattle.assign.specs.Refine.{Tries, Asks}
-use Rattle.masks.proofs.Lemmas.{same?, below?, and-left, and-right, both, between-in, between-from, between-to, hit, miss}
-use Rattle.assign.proofs.Counting.{cnt-set, cnt-at, cnt-place}
+use Rattle.masks.proofs.Lemmas.{same?, below?, holds?, clash, and-left, and-right, both, between-in, between-from, between-to, hit, miss}
+use Rattle.assign.proofs.Counting.{cnt-set, cnt-at, cnt-place, cnt-replicate}
 use Rattle.assign.proofs.Groups.{blocked-never, blocked-short}
 
 -- ---- what fits
@@ -65,13 +66,7 @@ module _ {may : ℕ → ℕ → Bool} {first k from to : ℕ} {w : List ℕ} (d 
   pub dealt-block : (v : ℕ) → v < 255 → 1 ≤ cnt v w → between first (first + k) v ≡ true
   dealt-block = right-block may first k from to w (d .right) (d .size)
 
-  -- a member that is not of the block has no place, and no member has two
-  pub dealt-none : (v : ℕ) → v < 255 → (between first (first + k) v ≡ true → ⊥) → cnt v w ≡ 0
-  dealt-none v z n = ⊎-elim
-      (λ (l : cnt v w < 1). omega arith)
-      (λ (l : 1 ≤ cnt v w). absurd (n (dealt-block v z l)))
-      (below? (cnt v w) 1)
-
+  -- no member has two places
   pub dealt-one : (v : ℕ) → v < 255 → cnt v w ≤ 1
   dealt-one v z = ⊎-elim
       (λ (l : cnt v w < 1). omega arith)
@@ -98,43 +93,72 @@ right-served may first k from to {ok} {w} {x} {m} block size right member wide s
     (λ (z : 32 ≤ getD x e 0). same 0 (s .spare e z))
     (below? (getD x e 0) 32)
 
-between-more : (first j v : ℕ) → between first (first + j) v ≡ true → between first (first + (j + 1)) v ≡ true
-between-more first j v b = let x = between-from first (first + j) v b in let y = between-to first (first + j) v b in between-in first (first + (j + 1)) v x (omega arith)
-
-pub dealt-empty : {may : ℕ → ℕ → Bool} {first k from to : ℕ} → k ≡ 0 → Dealt may first k from to (replicate 32 255)
-dealt-empty {may} {first} {k} {from} {to} none = record {
+pub partly-start : {may : ℕ → ℕ → Bool} {first k from to : ℕ} {U : ℕ → Bool} → first + k ≤ 32 → ((m : ℕ) → U m ≡ between first (first + k) m) → Partly may first k from to (replicate 32 255) U
+partly-start {may} {first} {k} {from} {to} {U} block all = record {
   size = length-replicate {A = ℕ} 32 255;
   right = λ e l. inl (getD-replicate {A = ℕ} 32 e 255 0 l);
-  once = λ m f t. absurd (omega arith);
+  once = λ m b u. absurd (clash (all m ∙ b) u);
+  waits = λ m u. let b = sym (all m) ∙ u in let t = between-to first (first + k) m b in (b, cnt-replicate m 255 (λ q. omega arith) 32);
 }
 
-module _ {may : ℕ → ℕ → Bool} {first j from to : ℕ} {w : List ℕ} (d : Dealt may first j from to w) where
-  next-none : first + j < 32 → cnt (first + j) w ≡ 0
-  next-none l = dealt-none d (first + j) (omega arith) (λ b. let y = between-to first (first + j) (first + j) b in omega arith)
+module _ {may : ℕ → ℕ → Bool} {first k from to : ℕ} {w : List ℕ} {U : ℕ → Bool} (p : Partly may first k from to w U) where
+  pub partly-done : ((m : ℕ) → U m ≡ false) → Dealt may first k from to w
+  partly-done none = record { size = p .size; right = p .right; once = λ m f t. p .once m (between-in first (first + k) m f t) (none m) }
 
-  pub dealt-more : {x : List ℕ} → first + j < 32 → Served (within may from to) w (first + j) x → Dealt may first (j + 1) from to x
-  dealt-more {x} l s = record {
-    size = s .size ∙ d .size;
-    right = right-served may first (j + 1) from to (omega arith) (d .size)
-        (λ e z. ⊎-elim inl (λ f. inr (fits-in may first (j + 1) from to _ e (between-more first j _ (fits-block may first j from to _ e f)) (fits-within may first j from to _ e f))) (d .right e z))
-        (between-in first (first + (j + 1)) (first + j) (omega arith) (omega arith)) (λ v e o. o) s;
-    once = λ m f t. ⊎-elim
-        (λ (q : m ≡ first + j). let a = s .more in let b = next-none l in rw q (omega arith))
-        (λ (q : m ≡ first + j → ⊥). let a = s .others m (omega arith) q in let b = d .once m f (omega arith) in omega arith)
-        (same? m (first + j));
+  -- only what members of the block may take of the piece matters
+  pub partly-same : {may' : ℕ → ℕ → Bool} → ((m e : ℕ) → between first (first + k) m ≡ true → between from to e ≡ true → may' m e ≡ may m e) → Partly may' first k from to w U
+  partly-same {may'} same = record {
+    size = p .size;
+    right = λ e l. ⊎-elim inl
+        (λ (f : fits may first k from to (getD w e 0) e ≡ true).
+        let b = fits-block may first k from to _ e f in
+        let h = fits-within may first k from to _ e f in
+        let i = within-piece may from to _ e h in
+        inr (fits-in may' first k from to _ e b (within-in may' from to _ e (same _ e b i ∙ within-may may from to _ e h) (between-from from to e i) (between-to from to e i))))
+        (p .right e l);
+    once = p .once;
+    waits = p .waits;
   }
 
-  -- no chain for the next member: a group of the block is short
-  pub dealt-short : {k : ℕ} → j < k → first + k ≤ 32 → Blocked (within may from to) w (first + j) → Short may first k from to
-  dealt-short {k} l block b = blocked-short b (d .size) (omega arith) (next-none (omega arith)) (λ v z. dealt-one d v (omega arith))
-      (λ v. ⊎-elim
-      (λ (q : v ≡ first + j). between-in first (first + k) v (omega arith) (omega arith))
-      (λ (q : (v < 32) × (1 ≤ cnt v w)).
-      let z = q .0 in
-      let i = dealt-block d v (omega arith) (q .1) in
-      let x = between-from first (first + j) v i in
-      let y = between-to first (first + j) v i in
-      between-in first (first + k) v x (omega arith)))
+  module _ {m : ℕ} (block : first + k ≤ 32) (left : U m ≡ true) where
+    pub partly-low : m < 32
+    partly-low = let t = between-to first (first + k) m (p .waits m left .0) in omega arith
+
+    pub partly-served : {R : ℕ → Bool} {x : List ℕ} → Flipped U m R → Served (within may from to) w m x → Partly may first k from to x R
+    partly-served {R} {x} flip s = record {
+      size = s .size ∙ p .size;
+      right = right-served may first k from to block (p .size) (p .right) (p .waits m left .0) (λ v e o. o) s;
+      once = λ v b r. let t = between-to first (first + k) v b in ⊎-elim
+          (λ (q : v ≡ m). let a = s .more in let n = p .waits m left .1 in rw q (omega arith))
+          (λ (q : v ≡ m → ⊥). let a = s .others v (omega arith) q in let o = p .once v b (sym (flip .other v q) ∙ r) in omega arith)
+          (same? v m);
+      waits = λ v r. ⊎-elim
+          (λ (q : v ≡ m). absurd (clash (subst (λ (j : ℕ). R j ≡ true) q r) (flip .self ∙ ap not left)))
+          (λ (q : v ≡ m → ⊥).
+          let h = p .waits v (sym (flip .other v q) ∙ r) in
+          let t = between-to first (first + k) v (h .0) in
+          let a = s .others v (omega arith) q in
+          let n = h .1 in
+          (h .0, omega arith))
+          (same? v m);
+    }
+
+    -- no chain for m: a group of the block is short
+    pub partly-short : Blocked (within may from to) w m → Short may first k from to
+    partly-short b = blocked-short b (p .size) partly-low (p .waits m left .1) one
+        (λ v. ⊎-elim (λ (q : v ≡ m). rw q (p .waits m left .0)) (λ (q : (v < 32) × (1 ≤ cnt v w)). let z = q .0 in of-block v (omega arith) (q .1)))
+      where
+        of-block : (v : ℕ) → v < 255 → 1 ≤ cnt v w → between first (first + k) v ≡ true
+        of-block = right-block may first k from to w (p .right) (p .size)
+
+        one : (v : ℕ) → v < 32 → cnt v w ≤ 1
+        one v z = ⊎-elim
+            (λ (l : cnt v w < 1). omega arith)
+            (λ (l : 1 ≤ cnt v w). ⊎-elim
+            (λ (u : U v ≡ true). let n = p .waits v u .1 in omega arith)
+            (λ (u : U v ≡ false). let n = p .once v (of-block v (omega arith) l) u in omega arith)
+            (holds? (U v)))
+            (below? (cnt v w) 1)
 
 -- ---- m takes e, and its old place p, after e, is spare
 abbrev swap : List ℕ → ℕ → ℕ → ℕ → List ℕ

@@ -9,3 +9,4 @@ pub mod Pieces
 pub mod Claims
 pub mod Unique
 pub mod Examples
+pub mod Quicks

@@ -17,7 +17,7 @@ use Rattle.assign.proofs.Laws.{earlier-irreflexive, earlier-asymmetric,
 use Rattle.assign.proofs.Counting.{cnt-append, cnt-replicate, cnt-none}
 use Rattle.assign.proofs.Groups.{takes-inv, takes-spare, takes-member, short-never}
 use Rattle.assign.proofs.Deals.{within-may, within-in, fits-block, fits-within, fits-in}
-use Rattle.assign.proofs.Firsts.{dealt-outside, byte}
+use Rattle.assign.proofs.Firsts.{dealt-outside}
 
 -- ---- a piece of a list
 pub slice-at : (from to : ℕ) (w : List ℕ) (i : ℕ) → i < to - from → getD (slice from to w) i 0 ≡ getD w (from + i) 0
@@ -185,13 +185,3 @@ module _ {may : ℕ → ℕ → Bool} {first k from to : ℕ} {w : List ℕ} (bl
     outside = λ i l _. ap (λ (x : List ℕ). getD x i 0) q ∙ getD-replicate {A = ℕ} 32 i 255 0 l;
     blank = λ _. q;
   }
-
--- a block of no members has one assignment: all is spare
-none-byte : {may : ℕ → ℕ → Bool} {first k from to : ℕ} {a : List ℕ} → k ≡ 0 → Dealt may first k from to a → (i : ℕ) → i < 32 → getD a i 0 ≡ 255
-none-byte {may} {first} {k} {from} {to} {a} n d i l = ⊎-elim
-    (λ (q : getD a i 0 ≡ 255). q)
-    (λ (q : (first ≤ getD a i 0) × (getD a i 0 < first + k) × (may (getD a i 0) i ≡ true)). let y = q .0 in let z = q .1 in absurd (omega arith))
-    (byte d i l)
-
-pub leads-none : {may : ℕ → ℕ → Bool} {first k from to : ℕ} {w : List ℕ} → k ≡ 0 → to ≤ 32 → Dealt may first k from to w → Leads may first k from to w to
-leads-none n end d = record { dealt = d; leads = λ a da. inl (λ i l. none-byte n da i (omega arith) ∙ sym (none-byte n d i (omega arith))) }

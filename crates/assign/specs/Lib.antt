@@ -2,7 +2,7 @@
 -- Order      == byte order on lists of bytes, and the first list of a kind
 -- Assignment == assignments of a piece by a block, and what `first_assignment` gives
 -- Claims     == what the crate promises, as statements
--- Chain, Saturate, Refine == what the private functions give
+-- Chain, Saturate, Refine, Quick == what the private functions give
 -- Assumes nothing: these are definitions.
 pub mod Order
 pub mod Assignment
@@ -10,3 +10,4 @@ pub mod Claims
 pub mod Chain
 pub mod Saturate
 pub mod Refine
+pub mod Quick

@@ -3,13 +3,13 @@ ghost use mathlib.Core.Path.{_≡_};
 ghost use mathlib.Core.Bool.{true};
 ghost use Prim.Native.Nat.{_<_, _≤_};
 ghost use lib.ListN.{set};
-ghost use Rattle.masks.specs.Rows.{bit, may};
+ghost use Rattle.masks.specs.Rows.{bit, picks};
 ghost use Rattle.assign.specs.Chain.{Opened, Ready, Settled, Placed, within};
 use crate::Found;
 use crate::visit::flip;
 use crate::visit::lowest;
+use columns::choices;
 use masks::has;
-use masks::rows::choices;
 use masks::with;
 
 // The places of a piece: the spare ones, and those that a member holds.
@@ -68,11 +68,11 @@ fn give(w: [u8; 32], e: u8, m: u8, taken: u8) -> Chain
 
 // Tries to give member m a place of `free` or `held`, moving other members along an alternating chain.
 // A spare place is taken at once. A held place is tried once in the whole search: whoever comes later finds it tried.
-pub fn settle(rows: &[u32; 32], free: u32, held: u32, w: [u8; 32], m: u8, visited: u32) -> Chain
+pub fn settle(columns: &[u32; 32], free: u32, held: u32, w: [u8; 32], m: u8, visited: u32) -> Chain
     requires { ⌜ Ready (bit free) (bit held) (bit visited) w m ⌝ }
-    ensures { λ r. ⌜ Settled (may (now (rows .entry))) (bit free) (bit held) (bit visited) w m (r .found) (r .taken) (bit (r .seen)) (bit (r .held)) (r .w) ⌝ }
+    ensures { λ r. ⌜ Settled (picks (now (columns .entry))) (bit free) (bit held) (bit visited) w m (r .found) (r .taken) (bit (r .seen)) (bit (r .held)) (r .w) ⌝ }
 {
-    let row = choices(rows, m);
+    let row = choices(columns, m);
     let mut seen = with(visited, m);
     let mut left = held;
     if row & free != 0 {
@@ -84,7 +84,7 @@ pub fn settle(rows: &[u32; 32], free: u32, held: u32, w: [u8; 32], m: u8, visite
         left = flip(left, e);
         let owner = w[e as usize];
         if !has(seen, owner) {
-            let c = settle(rows, free, left, w, owner, seen);
+            let c = settle(columns, free, left, w, owner, seen);
             if c.found {
                 let x = c.w;
                 return give(x, e, m, c.taken);
@@ -103,12 +103,12 @@ pub fn settle(rows: &[u32; 32], free: u32, held: u32, w: [u8; 32], m: u8, visite
 }
 
 // Gives member m one of the places from .. to - 1, if that can be done while every other member keeps as many as it has.
-pub fn place(rows: &[u32; 32], w: [u8; 32], m: u8, from: u8, to: u8) -> Found
+pub fn place(columns: &[u32; 32], w: [u8; 32], m: u8, from: u8, to: u8) -> Found
     requires { ⌜ (m < 32) × (from ≤ to) × (to ≤ 32) ⌝ }
-    ensures { λ r. ⌜ Placed (within (may (now (rows .entry))) from to) w m (r .found) (r .w) ⌝ }
+    ensures { λ r. ⌜ Placed (within (picks (now (columns .entry))) from to) w m (r .found) (r .w) ⌝ }
 {
     let open = open_places(w, from, to);
-    let c = settle(rows, open.free, open.held, w, m, 0);
+    let c = settle(columns, open.free, open.held, w, m, 0);
     let x = c.w;
     Found {
         found: c.found,

@@ -1,12 +1,13 @@
-// The first assignment of a piece by a block, in byte order. Members and elements are numbers below 32, and bit e of `rows[m]` says
-// that member m may take element e.
-ghost use mathlib.Core.Path.{_≡_};
+// The first assignment of a piece by a block, in byte order. Members and elements are numbers below 32, and bit m of `rows[e]` says
+// that member m may take element e. Chains start at members, so the search goes by columns, the rows turned.
 ghost use Prim.Native.Nat.{_+_, _≤_};
 ghost use Rattle.masks.specs.Rows.{may};
 ghost use Rattle.assign.specs.Assignment.{Answer};
+use columns::turned;
 
 mod visit; // going through a mask, bit by bit
 mod chain; // one member more, by an alternating chain
+mod quick; // the least free member for each element
 mod saturate; // an assignment, if there is one
 mod refine; // from an assignment to the first one
 
@@ -24,15 +25,20 @@ pub fn first_assignment(rows: &[u32; 32], first: u8, k: u8, from: u8, to: u8) ->
     requires { ⌜ (first + k ≤ 32) × (from ≤ to) × (to ≤ 32) ⌝ }
     ensures { λ r. ⌜ Answer (may (now (rows .entry))) first k from to (r .found) (r .w) ⌝ }
 {
-    if k == 0 {
-        let w = [SPARE; 32];
-        return Found { found: true, w: w };
+    let q = quick::quick(rows, first, k, from, to);
+    let begun = q.w;
+    if q.left == 0 {
+        return Found {
+            found: true,
+            w: begun,
+        };
     }
-    let s = saturate::saturate(rows, first, k, from, to);
+    let columns = turned(rows, first, k, from, to);
+    let s = saturate::saturate(&columns, from, to, begun, q.left);
     if !s.found {
         return s;
     }
     let w = s.w;
-    let x = refine::refine(rows, from, to, w);
+    let x = refine::refine(&columns, from, to, w);
     Found { found: true, w: x }
 }

@@ -1,7 +1,7 @@
 // From an assignment to the first one in byte order: from left to right each element is given the least member that it can have.
 ghost use mathlib.Core.Path.{_≡_};
 ghost use Prim.Native.Nat.{ℕ, _+_, _<_, _≤_, min};
-ghost use Rattle.masks.specs.Rows.{bit, Stands, may};
+ghost use Rattle.masks.specs.Rows.{bit, Stands, picks};
 ghost use Rattle.assign.specs.Saturate.{Dealt};
 ghost use Rattle.assign.specs.Refine.{Rivals, Candidates, Last, Later, Asks, Exchanged, Improved, Leads};
 use crate::Found;
@@ -11,7 +11,7 @@ use crate::chain::place;
 use crate::chain::settle;
 use crate::visit::flip;
 use crate::visit::lowest;
-use masks::rows::may_take;
+use columns::may_pick;
 use masks::with;
 
 // The lesser of two.
@@ -22,9 +22,9 @@ fn least(a: u8, b: u8) -> u8
 }
 
 // The members with a place after e that may take e and are below its byte: who can make the list come earlier.
-fn rivals(rows: &[u32; 32], to: u8, w: [u8; 32], e: u8) -> u32
+fn rivals(columns: &[u32; 32], to: u8, w: [u8; 32], e: u8) -> u32
     requires { ⌜ (e < to) × (to ≤ 32) ⌝ }
-    ensures { λ r. ⌜ Rivals (may (now (rows .entry))) w e to (bit r) ⌝ }
+    ensures { λ r. ⌜ Rivals (picks (now (columns .entry))) w e to (bit r) ⌝ }
 {
     let bound = least(w[e as usize], 32);
     let mut found: u32 = 0;
@@ -32,7 +32,7 @@ fn rivals(rows: &[u32; 32], to: u8, w: [u8; 32], e: u8) -> u32
     while p < to {
         let m = w[p as usize];
         if m < bound {
-            if may_take(rows, m, e) {
+            if may_pick(columns, m, e) {
                 found = with(found, m);
             }
         }
@@ -43,11 +43,11 @@ fn rivals(rows: &[u32; 32], to: u8, w: [u8; 32], e: u8) -> u32
 
 // Of the rivals, those to whom a chain from the holder of e leads: if another one took e, the holder would have no place.
 // So one search rules out all whose trial would fail.
-fn candidates(rows: &[u32; 32], to: u8, w: [u8; 32], e: u8) -> u32
+fn candidates(columns: &[u32; 32], to: u8, w: [u8; 32], e: u8) -> u32
     requires { ⌜ (e < to) × (to ≤ 32) ⌝ }
-    ensures { λ r. ⌜ Candidates (may (now (rows .entry))) w e to (bit r) ⌝ }
+    ensures { λ r. ⌜ Candidates (picks (now (columns .entry))) w e to (bit r) ⌝ }
 {
-    let all = rivals(rows, to, w, e);
+    let all = rivals(columns, to, w, e);
     if all == 0 {
         return all;
     }
@@ -56,7 +56,7 @@ fn candidates(rows: &[u32; 32], to: u8, w: [u8; 32], e: u8) -> u32
         return all;
     }
     let open = open_places(w, e + 1, to);
-    let c = settle(rows, open.free, open.held, w, holder, 0);
+    let c = settle(columns, open.free, open.held, w, holder, 0);
     if c.found {
         return all;
     }
@@ -77,9 +77,9 @@ fn place_of(w: [u8; 32], m: u8, to: u8) -> u8
 
 // Gives e to m, who has a later place: that place is spare then, and whom e belonged to is served by the places after e.
 // Where that cannot be done, w stays as it was.
-fn exchange(rows: &[u32; 32], to: u8, w: [u8; 32], e: u8, m: u8) -> Found
+fn exchange(columns: &[u32; 32], to: u8, w: [u8; 32], e: u8, m: u8) -> Found
     requires { ⌜ (to ≤ 32) × (m < 32) × Later w m e to ⌝ }
-    ensures { λ r. ⌜ ((first k from : ℕ) → first + k ≤ 32 → Asks (may (now (rows .entry))) first k from to w e m → Exchanged (may (now (rows .entry))) first k from to w e m (r .found) (r .w)) ⌝ }
+    ensures { λ r. ⌜ ((first k from : ℕ) → first + k ≤ 32 → Asks (picks (now (columns .entry))) first k from to w e m → Exchanged (picks (now (columns .entry))) first k from to w e m (r .found) (r .w)) ⌝ }
 {
     let p = place_of(w, m, to);
     let owner = w[e as usize];
@@ -89,7 +89,7 @@ fn exchange(rows: &[u32; 32], to: u8, w: [u8; 32], e: u8, m: u8) -> Found
     if owner >= 32 {
         return Found { found: true, w: x };
     }
-    let served = place(rows, x, owner, e + 1, to);
+    let served = place(columns, x, owner, e + 1, to);
     if served.found {
         return served;
     }
@@ -97,14 +97,14 @@ fn exchange(rows: &[u32; 32], to: u8, w: [u8; 32], e: u8, m: u8) -> Found
 }
 
 // Gives e to the least member that it can have while the places before e stay as they are.
-fn improve(rows: &[u32; 32], to: u8, w: [u8; 32], e: u8) -> [u8; 32]
+fn improve(columns: &[u32; 32], to: u8, w: [u8; 32], e: u8) -> [u8; 32]
     requires { ⌜ (e < to) × (to ≤ 32) ⌝ }
-    ensures { λ r. ⌜ ((first k from : ℕ) → first + k ≤ 32 → from ≤ e → Dealt (may (now (rows .entry))) first k from to w → Improved (may (now (rows .entry))) first k from to w e r) ⌝ }
+    ensures { λ r. ⌜ ((first k from : ℕ) → first + k ≤ 32 → from ≤ e → Dealt (picks (now (columns .entry))) first k from to w → Improved (picks (now (columns .entry))) first k from to w e r) ⌝ }
 {
-    let mut left = candidates(rows, to, w, e);
+    let mut left = candidates(columns, to, w, e);
     while left != 0 {
         let m = lowest(left);
-        let c = exchange(rows, to, w, e, m);
+        let c = exchange(columns, to, w, e, m);
         if c.found {
             let x = c.w;
             return x;
@@ -115,15 +115,15 @@ fn improve(rows: &[u32; 32], to: u8, w: [u8; 32], e: u8) -> [u8; 32]
 }
 
 // The first assignment, from any.
-pub fn refine(rows: &[u32; 32], from: u8, to: u8, w: [u8; 32]) -> [u8; 32]
+pub fn refine(columns: &[u32; 32], from: u8, to: u8, w: [u8; 32]) -> [u8; 32]
     requires { ⌜ (from ≤ to) × (to ≤ 32) ⌝ }
-    ensures { λ r. ⌜ ((first k : ℕ) → first + k ≤ 32 → Dealt (may (now (rows .entry))) first k from to w → Leads (may (now (rows .entry))) first k from to r to) ⌝ }
+    ensures { λ r. ⌜ ((first k : ℕ) → first + k ≤ 32 → Dealt (picks (now (columns .entry))) first k from to w → Leads (picks (now (columns .entry))) first k from to r to) ⌝ }
 {
     let mut x = w;
     let mut e = from;
     // the last element has no place after it to change with
     while e + 1 < to {
-        let y = improve(rows, to, x, e);
+        let y = improve(columns, to, x, e);
         x = y;
         e += 1;
     }

@@ -1,26 +1,28 @@
-// An assignment of the piece by the block, if there is one: the members are served in turn.
-ghost use mathlib.Core.Path.{_≡_};
-ghost use Prim.Native.Nat.{_+_, _≤_};
-ghost use Rattle.masks.specs.Rows.{may};
-ghost use Rattle.assign.specs.Saturate.{Saturated};
+// An assignment of the piece by the block, if there is one: the members that are left are served in turn.
+ghost use Prim.Native.Nat.{ℕ, _+_, _≤_};
+ghost use Rattle.masks.specs.Rows.{bit, picks};
+ghost use Rattle.assign.specs.Saturate.{Partly, Saturated};
 use crate::Found;
 use crate::SPARE;
 use crate::chain::open_places;
 use crate::chain::settle;
 use crate::visit::flip;
+use crate::visit::lowest;
 use masks::with;
 
-pub fn saturate(rows: &[u32; 32], first: u8, k: u8, from: u8, to: u8) -> Found
-    requires { ⌜ (first + k ≤ 32) × (from ≤ to) × (to ≤ 32) ⌝ }
-    ensures { λ r. ⌜ Saturated (may (now (rows .entry))) first k from to (r .found) (r .w) ⌝ }
+// An assignment of the elements from .. to - 1, from one in which the members of `left` have none.
+pub fn saturate(columns: &[u32; 32], from: u8, to: u8, begun: [u8; 32], left: u32) -> Found
+    requires { ⌜ (from ≤ to) × (to ≤ 32) ⌝ }
+    ensures { λ r. ⌜ ((first k : ℕ) → first + k ≤ 32 → Partly (picks (now (columns .entry))) first k from to begun (bit left) → Saturated (picks (now (columns .entry))) first k from to (r .found) (r .w)) ⌝ }
 {
-    let mut w = [SPARE; 32];
+    let mut w = begun;
     let open = open_places(w, from, to);
     let mut free = open.free;
     let mut held = open.held;
-    let mut j: u8 = 0;
-    while j < k {
-        let c = settle(rows, free, held, w, first + j, 0);
+    let mut waiting = left;
+    while waiting != 0 {
+        let m = lowest(waiting);
+        let c = settle(columns, free, held, w, m, 0);
         if !c.found {
             let blank = [SPARE; 32];
             return Found {
@@ -31,7 +33,7 @@ pub fn saturate(rows: &[u32; 32], first: u8, k: u8, from: u8, to: u8) -> Found
         free = flip(free, c.taken);
         held = with(held, c.taken);
         w = c.w;
-        j += 1;
+        waiting = flip(waiting, m);
     }
     Found { found: true, w: w }
 }

@@ -1,5 +1,5 @@
 -- The proofs of specs/Claims.antt. Assumes nothing.
-use mathlib.Core.Path.{_≡_, refl, sym, ap, _∙_, subst}
+use mathlib.Core.Path.{_≡_, refl, sym, ap, _∙_, subst, fun-ext}
 use mathlib.Core.Logic.{_⊎_, ⊎-elim}
 use mathlib.Core.Bool.{Bool, true, false}
 use mathlib.Core.List.{List}
@@ -10,8 +10,9 @@ use lib.Seq.{getD-take, ext-getD}
 use Rattle.assign.specs.Order.{earlier}
 use Rattle.masks.proofs.Lemmas.{below?, holds?, clash, not-so}
 use Rattle.assign.proofs.Laws.{first-unique}
-use Rattle.cuts.specs.Cut.{Cuts, Fills, Best, Passing}
-use Rattle.cuts.specs.Claims.{UniqueCut, UniqueFilling, CutPasses, CutFound, FillingPasses, FillingFound}
+use Rattle.masks.specs.Rows.{may, picks}
+use Rattle.cuts.specs.Cut.{Cuts, Fills, Best, Passing, Cutting, Filling}
+use Rattle.cuts.specs.Claims.{UniqueCut, UniqueFilling, CutPasses, CutFound, FillingPasses, FillingFound, NothingChanges}
 
 -- ---- of any kind of list
 -- where there is a list, one is found
@@ -74,3 +75,13 @@ fillingPasses may k n found r w v h b f q p =
 
 pub fillingFound : FillingFound
 fillingFound may k n found w v b l p = best-found v b (subst (λ (m : ℕ). Fills may k m v) l (p .passed refl))
+
+-- two relations that say the same of every pair are one
+pub nothingChanges : NothingChanges
+nothingChanges rows cols same bs k n found found' passed passed' w w' =
+    let one : picks cols ≡ may rows = fun-ext (λ m. fun-ext (λ e. same m e)) in (
+      λ p q. uniqueCut (may rows) bs n found found' w w' (subst (λ (r : ℕ → ℕ → Bool). Cutting r bs n found w) one p) q,
+      λ p q. uniqueFilling (may rows) k n found found' w w' (subst (λ (r : ℕ → ℕ → Bool). Filling r k n found w) one p) q,
+      λ p q. passing-unique (subst (λ (r : ℕ → ℕ → Bool). Passing (Cuts r bs 0 n w) passed) one p) q,
+      λ p q. passing-unique (subst (λ (r : ℕ → ℕ → Bool). Passing (Fills r k n w) passed) one p) q,
+    )

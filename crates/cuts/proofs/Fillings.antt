@@ -1,7 +1,7 @@
 -- Fillings: the members that a filling leaves, and the elements that are added for them. Assumes nothing.
 use mathlib.Core.Path.{_≡_, refl, sym, ap, ap₂, _∙_, subst}
 use mathlib.Core.Logic.{_⊎_, ⊎-elim}
-use mathlib.Core.Bool.{Bool, true, false, not, _||_, or-false}
+use mathlib.Core.Bool.{Bool, true, false, not}
 use mathlib.Core.List.{List, [], _∷_, _++_}
 use Prim.Native.Nat.{ℕ, zero, suc, _+_, _-_, _≤_, _<_, suc-le-suc}
 use native.Mathlib.Omega.{arith}
@@ -12,7 +12,7 @@ use borrow.Author.Tests.{eq-eqb, ne-eqb}
 use Rattle.assign.specs.Order.{earlier, First}
 use Rattle.masks.specs.Rows.{bit, between, oneIf, cnt, count, may}
 use Rattle.assign.specs.Assignment.{takes, Assigns, Answer}
-use Rattle.masks.proofs.Lemmas.{same?, below?, clash, not-so, one-of, or-left, or-right, between-in, between-from, hit, miss}
+use Rattle.masks.proofs.Lemmas.{same?, below?, clash, not-so, between-in, hit, miss}
 use Rattle.assign.proofs.Laws.{earlier-append-left}
 use Rattle.assign.proofs.Counting.{cnt-append, count-places, count-less, places-into}
 use Rattle.assign.proofs.Groups.{takes-inv}
@@ -202,22 +202,23 @@ module _ {may : ℕ → ℕ → Bool} {padded : ℕ → ℕ → Bool} {k n : ℕ
       let size = f .size in
       let sum = left-size v k (λ e l. f .member e (omega arith)) (f .once) in
       let long = length-append v (left v k) in
-      let right : (x i : ℕ) → x < k → i < k → (may x i || between n k i) ≡ true → takes padded 0 k (0 + i) x ≡ true = λ x i l u h.
+      let right : (x i : ℕ) → x < k → padded x i ≡ true → takes padded 0 k (0 + i) x ≡ true = λ x i l h.
       takes-member padded 0 k (0 + i) x (between-in 0 (0 + k) x (omega arith) (omega arith))
-      (subst (λ (j : ℕ). padded x j ≡ true) (let q : i ≡ 0 + i = omega arith in q) (p .each x i l u ∙ h)) in
+      (subst (λ (j : ℕ). padded x j ≡ true) (let q : i ≡ 0 + i = omega arith in q) h) in
       record {
         size = omega arith;
         right = λ i l. ⊎-elim
             (λ (h : i < n).
             let q : getD (v ++ left v k) i 0 ≡ getD v i 0 = List·getD-append v (left v k) 0 i (omega arith) in
             subst (λ (x : ℕ). takes padded 0 k (0 + i) x ≡ true) (sym q)
-            (right (getD v i 0) i (f .member i h) (omega arith) (or-left (may (getD v i 0) i) (between n k i) (f .right i h))))
+            (right (getD v i 0) i (f .member i h) (p .own (getD v i 0) i h ∙ f .right i h)))
             (λ (h : n ≤ i).
             let j = i - n in
             let z : i ≡ length v + j = omega arith in
             let q : getD (v ++ left v k) i 0 ≡ getD (left v k) j 0 = ap (λ (d : ℕ). getD (v ++ left v k) d 0) z ∙ getD-append-add v (left v k) j 0 in
+            let low = left-below v k j (omega arith) in
             subst (λ (x : ℕ). takes padded 0 k (0 + i) x ≡ true) (sym q)
-            (right (getD (left v k) j 0) i (left-below v k j (omega arith)) (omega arith) (or-right (may (getD (left v k) j 0) i) (between n k i) (between-in n k i h (omega arith)))))
+            (right (getD (left v k) j 0) i low (p .full (getD (left v k) j 0) i h (omega arith) ∙ between-in 0 k (getD (left v k) j 0) (omega arith) low)))
             (below? i n);
         once = λ m _ l.
             let a = cnt-append m v (left v k) in
@@ -242,11 +243,7 @@ module _ {may : ℕ → ℕ → Bool} {padded : ℕ → ℕ → Bool} {k n : ℕ
             let y = low e (omega arith) in
             let t : takes padded 0 k e x ≡ true = subst (λ (j : ℕ). takes padded 0 k j x ≡ true) (let q : 0 + e ≡ e = omega arith in q) (g .right e (omega arith)) in
             let m : padded x e ≡ true = ⊎-elim (λ (z : x ≡ 255). absurd (omega arith)) (λ (z : (between 0 (0 + k) x ≡ true) × (padded x e ≡ true)). z .1) (takes-inv padded 0 k e x t) in
-            let r : may x e ≡ true = ⊎-elim
-            (λ (z : may x e ≡ true). z)
-            (λ (z : between n k e ≡ true). let b = between-from n k e z in absurd (omega arith))
-            (one-of (may x e) (between n k e) (sym (p .each x e y (omega arith)) ∙ m)) in
-            subst (λ (j : ℕ). may j e ≡ true) (sym (at e h)) r;
+            subst (λ (j : ℕ). may j e ≡ true) (sym (at e h)) (sym (p .own x e h) ∙ m);
         once = λ m h.
             let c = cnt-append m (take n a) (drop n a) in
             let w = ap (λ (x : List ℕ). cnt m x) (take-append-drop n a) in
@@ -304,26 +301,35 @@ filling-answer {may} {padded} {k} {n} {found} {w} {r} few l p a s =
           (below? i n));
     }
 
--- ---- rows
--- the rows before m
-pub record PaddedTo (rows : List ℕ) (n k m : ℕ) (r : List ℕ) : Type 0 where
+-- ---- the rows: full ones, then those of the elements in turn
+pub record PaddedTo (rows : List ℕ) (k e : ℕ) (r : List ℕ) : Type 0 where
   pub size : length r ≡ 32
-  pub each : (j e : ℕ) → j < m → may r j e ≡ (may rows j e || between n k e)
+  pub padded : Padded (may rows) e k (may r)
 
-pub padded-start : (rows : List ℕ) (n k : ℕ) → PaddedTo rows n k 0 (replicate 32 0)
-padded-start rows n k = record { size = length-replicate {A = ℕ} 32 0; each = λ j e l. absurd (omega arith) }
-
-pub padded-step : {rows : List ℕ} {n k m : ℕ} {r : List ℕ} (more row : ℕ) → m < 32 → PaddedTo rows n k m r → ((e : ℕ) → bit more e ≡ between n k e)
-    → (own : ℕ) → ((e : ℕ) → bit own e ≡ may rows m e) → ((e : ℕ) → bit row e ≡ (bit own e || bit more e)) → PaddedTo rows n k (m + 1) (set r m row)
+pub padded-start : {rows : List ℕ} {k all : ℕ} → ((m : ℕ) → bit all m ≡ between 0 k m) → PaddedTo rows k 0 (replicate 32 all)
 unfolding may
-padded-step {rows} {n} {k} {m} {r} more row h g b own v u =
-    let long = g .size in
+padded-start {rows} {k} {all} h = record {
+  size = length-replicate {A = ℕ} 32 all;
+  padded = record {
+    own = λ m e l. absurd (omega arith);
+    full = λ m e _ l. ap (λ (x : ℕ). bit x m) (getD-replicate {A = ℕ} 32 e all 0 l) ∙ h m;
+  };
+}
+
+pub padded-step : {rows r : List ℕ} {e k : ℕ} → e < 32 → PaddedTo rows k e r → PaddedTo rows k (e + 1) (set r e (getD rows e 0))
+unfolding may
+padded-step {rows} {r} {e} {k} h g =
+    let size = g .size in
+    let p = g .padded in
+    let row = getD rows e 0 in
+    let other : (m i : ℕ) → (i ≡ e → ⊥) → bit (getD (set r e row) i 0) m ≡ bit (getD r i 0) m = λ m i q. ap (λ (x : ℕ). bit x m) (getD-set-other r e i row 0 q) in
     record {
-      size = length-set r m row ∙ long;
-      each = λ j e l. ⊎-elim
-          (λ (q : j ≡ m).
-          subst (λ (i : ℕ). bit (getD (set r m row) i 0) e ≡ (bit (getD rows i 0) e || between n k e)) (sym q)
-          (ap (λ (x : ℕ). bit x e) (getD-set-same r m row 0 (omega arith)) ∙ u e ∙ ap₂ (λ s t. s || t) (v e) (b e)))
-          (λ (q : j ≡ m → ⊥). ap (λ (x : ℕ). bit x e) (getD-set-other r m j row 0 q) ∙ g .each j e (omega arith))
-          (same? j m);
+      size = length-set r e row ∙ size;
+      padded = record {
+        own = λ m i l. ⊎-elim
+            (λ (q : i ≡ e). rw q (ap (λ (x : ℕ). bit x m) (getD-set-same r e row 0 (omega arith))))
+            (λ (q : i ≡ e → ⊥). other m i q ∙ p .own m i (omega arith))
+            (same? i e);
+        full = λ m i f l. other m i (λ q. omega arith) ∙ p .full m i (omega arith) l;
+      };
     }

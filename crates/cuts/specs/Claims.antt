@@ -6,6 +6,8 @@
 -- CutFound      <-> where some list passes `cut_passes`, `first_cut` finds a cut, and the list does not come before it
 -- FillingPasses <-> the filling that `first_filling` finds passes `filling_passes`
 -- FillingFound  <-> where some list passes `filling_passes`, `first_filling` finds a filling, and the list does not come before it
+-- NothingChanges <-> what is promised by rows of members and what is promised by rows of elements, where both say the same of every pair, is the same: the cut and the
+--   filling that are found, byte for byte, and whether an offered list passes (document 02, request Four)
 -- Assumes nothing.
 use mathlib.Core.Path.{_≡_}
 use mathlib.Core.Bool.{Bool, true, false}
@@ -14,6 +16,7 @@ use Prim.Native.Nat.{ℕ, _≤_}
 use lib.ListN.{length, take}
 use Rattle.assign.specs.Order.{earlier}
 use Rattle.blocks.specs.declared.Block.{Block}
+use Rattle.masks.specs.Rows.{may, picks}
 use Rattle.cuts.specs.Cut.{Cuts, Fills, Cutting, Filling, Passing}
 
 abbrev pub UniqueCut : Type 0
@@ -39,3 +42,10 @@ FillingPasses = (may : ℕ → ℕ → Bool) (k n : ℕ) (found r : Bool) (w v :
 abbrev pub FillingFound : Type 0
 FillingFound = (may : ℕ → ℕ → Bool) (k n : ℕ) (found : Bool) (w v : List ℕ)
     → Filling may k n found w → length v ≡ n → Passing (Fills may k (length v) v) true → (found ≡ true) × (earlier v (take n w) ≡ false)
+
+abbrev pub NothingChanges : Type 0
+NothingChanges = (rows cols : List ℕ) → ((m e : ℕ) → picks cols m e ≡ may rows m e) → (bs : List Block) (k n : ℕ) (found found' passed passed' : Bool) (w w' : List ℕ)
+    → (Cutting (picks cols) bs n found w → Cutting (may rows) bs n found' w' → (found ≡ found') × (w ≡ w'))
+    × (Filling (picks cols) k n found w → Filling (may rows) k n found' w' → (found ≡ found') × (w ≡ w'))
+    × (Passing (Cuts (picks cols) bs 0 n w) passed → Passing (Cuts (may rows) bs 0 n w) passed' → passed ≡ passed')
+    × (Passing (Fills (picks cols) k n w) passed → Passing (Fills (may rows) k n w) passed' → passed ≡ passed')

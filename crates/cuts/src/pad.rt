@@ -1,31 +1,19 @@
-// Rows with elements that every member may take.
-ghost use mathlib.Core.Path.{_≡_};
-ghost use mathlib.Core.Bool.{_||_};
-ghost use Prim.Native.Nat.{ℕ, _≤_};
-ghost use Rattle.masks.specs.Rows.{bit, between, may};
+// Rows with elements that every member may take: their rows are full.
+ghost use Prim.Native.Nat.{_≤_};
+ghost use Rattle.masks.specs.Rows.{may};
 ghost use Rattle.cuts.specs.Pad.{Padded};
-use masks::rows::choices;
 use masks::span;
 
-// What is in a or in b.
-fn union(a: u32, b: u32) -> u32
-    ensures { λ r. ⌜ ((e : ℕ) → bit r e ≡ (bit a e || bit b e)) ⌝ }
-{
-    a | b
-}
-
-// The rows in which each member below k may take the elements n .. k - 1 too.
+// The rows of the elements below n, and after them rows that have every member below k.
 pub fn padded(rows: &[u32; 32], n: u8, k: u8) -> [u32; 32]
-    requires { ⌜ (n ≤ k) × (k ≤ 32) ⌝ }
+    requires { ⌜ (n ≤ 32) × (k ≤ 32) ⌝ }
     ensures { λ r. ⌜ Padded (may (now (rows .entry))) n k (may r) ⌝ }
 {
-    let more = span(n, k);
-    let mut r = [0u32; 32];
-    let mut m: u8 = 0;
-    while m < k {
-        let row = union(choices(rows, m), more);
-        r[m as usize] = row;
-        m += 1;
+    let mut r = [span(0, k); 32];
+    let mut e: usize = 0;
+    while e < n as usize {
+        r[e] = rows[e];
+        e += 1;
     }
     r
 }

@@ -29,9 +29,9 @@ use Rattle.plan.proofs.rows_of.Kinds as rows-of-kinds
 -- the rows depend on the members only, not on the places where equal ones are found
 pub rows-same : (es : List (Elem Leaf)) (xs : List ℤ) (rows rows′ : List ℕ) → RowsOf es xs rows → RowsOf es xs rows′ → rows ≡ rows′
 unfolding may
-rows-same es xs rows rows′ p q = ext-getD 0 rows rows′ (p .size ∙ sym (q .size)) (λ m l. bits-same (getD rows m 0) (getD rows′ m 0) (λ e. bits m e))
+rows-same es xs rows rows′ p q = ext-getD 0 rows rows′ (p .size ∙ sym (q .size)) (λ e l. bits-same (getD rows e 0) (getD rows′ e 0) (λ m. bits m e))
   where
-    bits : (m e : ℕ) → bit (getD rows m 0) e ≡ bit (getD rows′ m 0) e
+    bits : (m e : ℕ) → bit (getD rows e 0) m ≡ bit (getD rows′ e 0) m
     bits m e =
         ⊎-elim
         (λ (i : m < length es). ⊎-elim

@@ -2,7 +2,7 @@
 -- Planned t a b p <-> the plan p says of the template with the length attribute a and the body b, whose bytes are t: its length bounds,
 --                    whether it is a subset, its blocks, and where its members stand
 -- PlanOf t p     <-> p is the plan of the bytes t: the refusal's number, or 0 and what Planned says
--- RowsOf es xs rows <-> bit e of row m says whether member m of es matches element e of xs; every other bit is clear
+-- RowsOf es xs rows <-> bit m of row e says whether member m of es matches element e of xs; every other bit is clear
 -- Assumes nothing: these are definitions.
 use mathlib.Core.Path.{_≡_}
 use mathlib.Core.Bool.{false}

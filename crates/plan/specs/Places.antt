@@ -1,35 +1,38 @@
--- What is known of the places of members, and what a row says. A place is an index into the bytes t.
+-- What is known of the places of members, and what a member adds to the rows. A place is an index into the bytes t.
 -- MembersAt t places members <-> an element template stands at each of the first `members` places
--- RowTo t at xs n row <-> bit j of `row` says whether the element template at `at` matches element j of xs, for j below n; every other bit is clear
--- RowWithin xs lower upper n row <-> bit j of `row` says whether element j of xs, a 32-bit integer, lies between the bounds, ends
---                        included, for j below n; every other bit is clear
+-- Marked before m test n after <-> the rows `after` are `before`, and member m stands besides in the row of each element below n for which
+--   the test holds
+-- MarkedWithin before m xs lower upper n after <-> so for the elements of xs between the bounds, ends included; each is a 32-bit integer
+-- MarkedBy before m t at xs n after <-> so for the elements of xs that the element template at `at` matches
 -- Assumes nothing: these are definitions.
 use mathlib.Core.Path.{_≡_}
-use mathlib.Core.Bool.{false, _&&_}
+use mathlib.Core.Bool.{Bool, _&&_, _||_}
 use mathlib.Core.List.{List}
 use Prim.Native.Nat.{ℕ, _≤_, _<_}
-use lib.ListN.{getD, drop, take}
+use lib.ListN.{length, getD, take}
 use lib.IntN.{ℤ, pos}
 use lib.Signed.{leZ}
 use Rattle.words.specs.Integer.{Word}
 use Rattle.template.specs.Element.{Elem}
-use Rattle.template.specs.Leaf.{Leaf, leafHead}
-use Rattle.template.specs.Reading.{got, counted, outermost}
-use Rattle.template.specs.Blocks.{Standing}
+use Rattle.template.specs.Leaf.{Leaf}
+use Rattle.template.specs.Blocks.{StandsAt, Standing}
 use Rattle.element.specs.Matches.{matches}
-use Rattle.masks.specs.Rows.{bit}
+use Rattle.masks.specs.Rows.{may}
 
 pub record MembersAt (t places : List ℕ) (members : ℕ) : Type 0 where
   pub few : members ≤ 32
   pub who : List (Elem Leaf)
   pub stands : Standing t who (take members places)
 
-pub record RowTo (t : List ℕ) (at : ℕ) (xs : List ℤ) (n row : ℕ) : Type 0 where
-  pub right : (e : Elem Leaf) (k : ℕ) (rest : List ℕ) → outermost leafHead (drop at t) ≡ got (counted e k) rest
-      → (j : ℕ) → j < n → bit row j ≡ matches e (getD xs j (pos 0))
-  pub beyond : (j : ℕ) → n ≤ j → bit row j ≡ false
+pub record Marked (before : List ℕ) (m : ℕ) (test : ℕ → Bool) (n : ℕ) (after : List ℕ) : Type 0 where
+  pub size : length after ≡ 32
+  pub other : (v e : ℕ) → (v ≡ m → ⊥) → may after v e ≡ may before v e
+  pub self : (e : ℕ) → e < n → may after m e ≡ (may before m e || test e)
+  pub beyond : (e : ℕ) → n ≤ e → may after m e ≡ may before m e
 
-pub record RowWithin (xs : List ℤ) (lower upper : ℤ) (n row : ℕ) : Type 0 where
-  pub words : (j : ℕ) → j < n → Word (getD xs j (pos 0))
-  pub right : (j : ℕ) → j < n → bit row j ≡ (leZ lower (getD xs j (pos 0)) && leZ (getD xs j (pos 0)) upper)
-  pub beyond : (j : ℕ) → n ≤ j → bit row j ≡ false
+pub record MarkedWithin (before : List ℕ) (m : ℕ) (xs : List ℤ) (lower upper : ℤ) (n : ℕ) (after : List ℕ) : Type 0 where
+  pub words : (e : ℕ) → e < n → Word (getD xs e (pos 0))
+  pub marked : Marked before m (λ e. leZ lower (getD xs e (pos 0)) && leZ (getD xs e (pos 0)) upper) n after
+
+pub record MarkedBy (before : List ℕ) (m : ℕ) (t : List ℕ) (at : ℕ) (xs : List ℤ) (n : ℕ) (after : List ℕ) : Type 0 where
+  pub marked : (who : Elem Leaf) → StandsAt t at who → Marked before m (λ e. matches who (getD xs e (pos 0))) n after

@@ -1,14 +1,14 @@
 // The plan of a template: its items as blocks, where its members stand, and which member matches which element of a list.
 ghost use mathlib.Core.List.{List};
 ghost use mathlib.Core.Path.{_≡_};
-ghost use Prim.Native.Nat.{_≤_};
+ghost use Prim.Native.Nat.{_≤_, _<_};
 ghost use lib.ListN.{length, take};
 ghost use Rattle.template.specs.Element.{Elem};
 ghost use Rattle.template.specs.Leaf.{Leaf};
 ghost use Rattle.element.specs.Contract.{ElementAt};
 ghost use Rattle.template.specs.Blocks.{Standing};
 ghost use Rattle.plan.specs.Contract.{PlanOf, RowsOf};
-ghost use Rattle.plan.specs.Places.{MembersAt, RowTo, RowWithin};
+ghost use Rattle.plan.specs.Places.{MembersAt, MarkedWithin, MarkedBy};
 use blocks::Block;
 use element::match_element;
 use masks::with;
@@ -38,59 +38,58 @@ const LEAST: i32 = -2147483648;
 
 const MOST: i32 = 2147483647;
 
-// Which elements of the list lie between the bounds, both ends included.
-fn row_within(list: &[i32], lower: i32, upper: i32) -> u32
-    requires { ⌜ length (now list) ≤ 32 ⌝ }
-    ensures { λ r. ⌜ RowWithin (now (list .entry)) lower upper (length (now (list .entry))) r ⌝ }
+// Puts member m into the rows of the elements that lie between the bounds, both ends included. Each row is written, changed or not, so that
+// the compiler takes several at a time.
+fn mark_within(rows: &mut [u32; 32], m: u8, list: &[i32], lower: i32, upper: i32)
+    requires { ⌜ (length (now rows) ≡ 32) × (m < 32) × (length (now list) ≤ 32) ⌝ }
+    ensures { λ _. ⌜ MarkedWithin (now (rows .entry)) m (now (list .entry)) lower upper (length (now (list .entry))) (now (rows .exit)) ⌝ }
 {
-    let mut row: u32 = 0;
-    let mut i: usize = 0;
-    while i < list.len() {
-        let x = list[i];
-        if within(x, lower, upper) {
-            row = with(row, i as u8);
-        }
-        i += 1;
+    let mut e: usize = 0;
+    while e < list.len() {
+        let row = rows[e];
+        rows[e] = if within(list[e], lower, upper) {
+            with(row, m)
+        } else {
+            row
+        };
+        e += 1;
     }
-    row
 }
 
-// Which elements of the list the element template at `at` matches. Its bytes are walked over anew for each element.
-fn row_tested(t: &[u8], at: usize, list: &[i32]) -> u32
-    requires { ⌜ ElementAt (now t) at × (length (now list) ≤ 32) ⌝ }
-    ensures { λ r. ⌜ RowTo (now (t .entry)) at (now (list .entry)) (length (now (list .entry))) r ⌝ }
+// Puts member m into the rows of the elements that the element template at `at` matches. Its bytes are walked over anew for each element.
+fn mark_tested(rows: &mut [u32; 32], m: u8, t: &[u8], at: usize, list: &[i32])
+    requires { ⌜ (length (now rows) ≡ 32) × (m < 32) × ElementAt (now t) at × (length (now list) ≤ 32) ⌝ }
+    ensures { λ _. ⌜ MarkedBy (now (rows .entry)) m (now (t .entry)) at (now (list .entry)) (length (now (list .entry))) (now (rows .exit)) ⌝ }
 {
-    let mut row: u32 = 0;
     let mut e: usize = 0;
     while e < list.len() {
         let x = list[e];
         let w = match_element(t, at, x);
         if w.hit {
-            row = with(row, e as u8);
+            rows[e] = with(rows[e], m);
         }
         e += 1;
     }
-    row
 }
 
-// Which elements of the list the element template at `at` matches. A leaf is read once, for all of them.
-fn row_of(t: &[u8], at: usize, list: &[i32]) -> u32
-    requires { ⌜ ElementAt (now t) at × (length (now list) ≤ 32) ⌝ }
-    ensures { λ r. ⌜ RowTo (now (t .entry)) at (now (list .entry)) (length (now (list .entry))) r ⌝ }
+// Puts member m into the rows of the elements that the element template at `at` matches. A leaf is read once, for all of them.
+fn mark(rows: &mut [u32; 32], m: u8, t: &[u8], at: usize, list: &[i32])
+    requires { ⌜ (length (now rows) ≡ 32) × (m < 32) × ElementAt (now t) at × (length (now list) ≤ 32) ⌝ }
+    ensures { λ _. ⌜ MarkedBy (now (rows .entry)) m (now (t .entry)) at (now (list .entry)) (length (now (list .entry))) (now (rows .exit)) ⌝ }
 {
     let kind = t[at];
     match kind {
         SINGLE => {
             let x = int_at(t, at + 1);
-            row_within(list, x, x)
+            mark_within(rows, m, list, x, x)
         }
-        RANGE => row_within(list, int_at(t, at + 1), int_at(t, at + 5)),
-        ANY => row_within(list, LEAST, MOST),
-        _ => row_tested(t, at, list),
+        RANGE => mark_within(rows, m, list, int_at(t, at + 1), int_at(t, at + 5)),
+        ANY => mark_within(rows, m, list, LEAST, MOST),
+        _ => mark_tested(rows, m, t, at, list),
     }
 }
 
-// Bit e of row m says whether the member at `places[m]` matches element e of the list.
+// Bit m of row e says whether the member at `places[m]` matches element e of the list.
 pub fn rows_of(t: &[u8], places: [usize; 32], members: usize, list: &[i32]) -> [u32; 32]
     requires { ⌜ MembersAt (now t) places members × (length (now list) ≤ 32) ⌝ }
     ensures { λ r. ⌜ ((es : List (Elem Leaf)) → Standing (now (t .entry)) es (take members places) → RowsOf es (now (list .entry)) r) ⌝ }
@@ -99,7 +98,7 @@ pub fn rows_of(t: &[u8], places: [usize; 32], members: usize, list: &[i32]) -> [
     let mut m: usize = 0;
     while m < members {
         let at = places[m];
-        rows[m] = row_of(t, at, list);
+        mark(&mut rows, m as u8, t, at, list);
         m += 1;
     }
     rows

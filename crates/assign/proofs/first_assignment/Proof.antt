@@ -1,45 +1,65 @@
--- `first_assignment` meets its contract: an assignment from `saturate`, and the first one from `refine`; a group that is short where there is none.
--- Assumes nothing.
+-- `first_assignment` meets its contract: where `quick` serves every member; else by the columns an assignment from `saturate` and the first one from `refine`, or
+-- a group that is short. What the columns say of the block and the piece is what the rows say. Assumes nothing.
 use mathlib.Core.Path.{sym, subst}
 use mathlib.Core.Bool.{Bool}
 use borrow.Author.Tests.{not-true, not-false}
-use Rattle.masks.specs.Rows.{may}
+use Rattle.masks.specs.Rows.{may, picks}
 use Rattle.assign.specs.Assignment.{Answer}
-use Rattle.assign.proofs.Pieces.{answer-found, answer-none, leads-none}
-use Rattle.assign.proofs.Deals.{dealt-empty}
+use Rattle.assign.specs.Saturate.{Saturated}
+use Rattle.assign.proofs.Pieces.{answer-found, answer-none}
+use Rattle.assign.proofs.Deals.{partly-same}
+use Rattle.assign.proofs.Quicks.{greedy-done}
+use Rattle.assign.proofs.Assignments.{answer-same, turned-same}
 use Rattle.assign.proofs.first_assignment.Statement.{statement}
 use Rattle.assign.proofs.first_assignment.Tie as tie
 
--- no members
+quick-requires : tie.Need-quick-requires
+quick-requires c κs = c .pre
+
+-- every member found a free element in turn
 returns : tie.Need-returns
 returns c =
-    let p = c .before .pre in
-    answer-found (p .0) (p .1) (p .2) (leads-none (c .if1 .taken) (p .2) (dealt-empty (c .if1 .taken)))
+    let called = c .before .before .before in
+    let p = called .before .pre in
+    answer-found (p .0) (p .1) (p .2) (greedy-done (called .quick .ensures) (c .if1 .taken))
+
+turned-requires : tie.Need-turned-requires
+turned-requires c κs = c .before .before .before .before .pre
 
 saturate-requires : tie.Need-saturate-requires
-saturate-requires c κs = c .before .pre
+saturate-requires c κs = let p = c .before .before .before .before .before .before .pre in (p .1, p .2)
+
+-- what `saturate` found, from where `quick` left off
+saturated : (c : tie.After-saturate) → let a = c .before .before .before .before .before .before .before .args in
+    Saturated (picks (c .before .before .turned .result)) (a .first) (a .k) (a .from) (a .to) (c .saturate .result .found) (c .saturate .result .w)
+saturated c =
+    let turning = c .before .before in
+    let called = turning .before .before .before .before in
+    c .saturate .ensures _ _ (called .before .pre .0) (partly-same (called .quick .ensures .partly) (turned-same (turning .turned .ensures)))
 
 -- a group is short
 returns-2 : tie.Need-returns-2
 returns-2 c =
     let called = c .before .before in
-    let start = called .before .before in
+    let f = not-true _ (c .if2 .taken) in
+    let start = called .before .before .before .before .before .before .before in
     let a = start .args in
     let p = start .pre in
-    let s = called .saturate in
-    let f = not-true _ (c .if2 .taken) in
-    subst (λ (t : Bool). Answer (may (a .rows .now)) (a .first) (a .k) (a .from) (a .to) t (s .result .w)) (sym f)
-    (answer-none (p .0) (p .1) (p .2) (s .ensures .blank f) (s .ensures .short f))
+    let s = saturated called in
+    subst (λ (t : Bool). Answer (may (a .rows .now)) (a .first) (a .k) (a .from) (a .to) t (called .saturate .result .w)) (sym f)
+    (answer-same (turned-same (called .before .before .turned .ensures)) (answer-none (p .0) (p .1) (p .2) (s .blank f) (s .short f)))
 
 refine-requires : tie.Need-refine-requires
-refine-requires c κs = let p = c .before .before .before .before .before .pre in (p .1, p .2)
+refine-requires c κs = let p = c .before .before .before .before .before .before .before .before .before .before .before .pre in (p .1, p .2)
 
 returns-3 : tie.Need-returns-3
 returns-3 c =
-    let called = c .before .before .before .before in
-    let p = called .before .before .pre in
-    let dealt = called .saturate .ensures .dealt (not-false _ (c .before .before .if2 .left)) in
-    answer-found (p .0) (p .1) (p .2) (c .refine .ensures _ _ (p .0) dealt)
+    let else2 = c .before .before .before in
+    let called = else2 .before .before in
+    let turning = called .before .before in
+    let p = turning .before .before .before .before .before .pre in
+    let dealt = saturated called .dealt (not-false _ (else2 .if2 .left)) in
+    answer-same (turned-same (turning .turned .ensures)) (answer-found (p .0) (p .1) (p .2) (c .refine .ensures _ _ (p .0) dealt))
 
 pub first-assignment-spec : {M : Type 1} → statement M
-first-assignment-spec = tie.close (tie.spec returns saturate-requires returns-2 refine-requires returns-3)
+first-assignment-spec = tie.close (tie.spec quick-requires returns turned-requires saturate-requires returns-2 refine-requires returns-3)

@@ -15,7 +15,7 @@ returns : tie.Need-returns
 returns c = filling-crowded (c .before .pre .1) (c .if1 .taken)
 
 padded-requires : tie.Need-padded-requires
-padded-requires c κs = (c .if1 .left, c .before .pre .0)
+padded-requires c κs = let p = c .before .pre in (p .1, p .0)
 
 first-assignment-requires : tie.Need-first-assignment-requires
 first-assignment-requires c κs = (omega arith, omega arith, omega arith)

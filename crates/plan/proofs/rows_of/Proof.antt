@@ -1,20 +1,21 @@
--- `plan::rows_of` meets its contract. The loop: the rows of the members below m are made and the others are clear. The measure is the
--- number of members left. Assumes nothing.
+-- `plan::rows_of` meets its contract. The loop: the members below m stand in the rows of the elements that they match, and no other member
+-- in any. The measure is the number of members left. Assumes nothing.
 use mathlib.Core.Path.{_≡_}
+use mathlib.Core.List.{List}
 use Prim.Native.Nat.{_-_, _≤_}
 use native.Mathlib.Omega.{arith}
-use lib.ListN.{length}
+use lib.ListN.{length, take}
 use mir.Syntax.{w64}
 use borrow.Kind.Array.{eInt, good-length}
+use Rattle.template.specs.Element.{Elem}
+use Rattle.template.specs.Leaf.{Leaf}
+use Rattle.template.specs.Blocks.{Standing}
 use Rattle.plan.proofs.Rows.{RowsTo, rows-start, rows-step, rows-end, element-there}
 use Rattle.plan.proofs.rows_of.Statement.{statement}
 use Rattle.plan.proofs.rows_of.Tie as tie
-use Rattle.plan.proofs.rows_of.Reads as reads
-use Rattle.plan.proofs.rows_of.Lts as lts
-use Rattle.plan.proofs.row_of.Reads as row-of-reads
 
 abbrev Inv-loop : tie.InvT-loop
-Inv-loop t members list places rows₀ m₀ rows m = RowsTo t places list m rows × (m ≤ members)
+Inv-loop t members list places rows₀ m₀ rows m = ((es : List (Elem Leaf)) → Standing t es (take members places) → RowsTo es list m rows) × (m ≤ members)
 
 abbrev μ-loop : tie.MeasureT-loop
 μ-loop t members list places rows₀ m₀ rows m = members - m
@@ -24,9 +25,7 @@ size : (c : tie.Start Inv-loop μ-loop) → length (c .args .t2) ≡ 32
 size c = good-length (eInt w64) 32 (c .args .t2) _ (c .good .1 .0)
 
 loop-holds : tie.Need-loop-holds Inv-loop μ-loop
-loop-holds c =
-    let a = c .before .args in
-    (rows-start (a .t .now) (a .t2) (a .list .now), omega arith)
+loop-holds c = (λ es s. rows-start es (c .before .args .list .now), omega arith)
 
 mul-at : tie.Need-mul-at Inv-loop μ-loop
 mul-at c = omega (arith, c .loop-test .taken, c .before .before .before .pre .0 .few)
@@ -34,32 +33,43 @@ mul-at c = omega (arith, c .loop-test .taken, c .before .before .before .pre .0 
 array-read-at : tie.Need-array-read-at Inv-loop μ-loop
 array-read-at c = omega (arith, c .loop-test .taken, c .before .before .before .pre .0 .few)
 
-row-of-requires : tie.Need-row-of-requires Inv-loop μ-loop
-row-of-requires c κs =
-    let a = c .before .before .before .args in
-    (element-there (a .t .now) (a .t2) (a .list .now) (a .members) (size (c .before .before .before)) (c .before .before .before .pre .0) (c .before .loop .m) (c .loop-test .taken), c .before .before .before .pre .1)
+cast-mark : tie.Need-cast-mark Inv-loop μ-loop
+cast-mark c = omega (arith, c .before .loop-test .taken, c .before .before .before .before .pre .0 .few)
 
-mul-rows : tie.Need-mul-rows Inv-loop μ-loop
-mul-rows c = omega (arith, c .before .loop-test .taken, c .before .before .before .before .pre .0 .few)
-
-array-write-rows : tie.Need-array-write-rows Inv-loop μ-loop
-array-write-rows c = omega (arith, c .before .loop-test .taken, c .before .before .before .before .pre .0 .few)
+mark-requires : tie.Need-mark-requires Inv-loop μ-loop
+mark-requires c κs =
+    let at-loop = c .before .before in
+    let start = at-loop .before .before in
+    let w = start .pre .0 in
+    let going = c .before .loop-test .taken in (
+      at-loop .loop .inv .0 (w .who) (w .stands) .size,
+      omega (arith, going, w .few),
+      element-there (start .args .t .now) (start .args .t2) (start .args .list .now) (start .args .members) (size start) w (at-loop .loop .m) going,
+      start .pre .1,
+    )
 
 add-m : tie.Need-add-m Inv-loop μ-loop
-add-m c = omega (arith, c .before .loop-test .taken, c .before .before .before .before .pre .0 .few)
+add-m c = omega (arith, c .before .before .loop-test .taken, c .before .before .before .before .before .pre .0 .few)
 
 loop-less : tie.Need-loop-less Inv-loop μ-loop
-loop-less c = omega (arith, c .before .loop-test .taken)
+loop-less c = omega (arith, c .before .before .loop-test .taken)
 
 loop-again : tie.Need-loop-again Inv-loop μ-loop
 loop-again c =
-    let a = c .before .before .before .before .args in
-    (rows-step (a .t .now) (a .t2) (a .list .now) (a .members) (size (c .before .before .before .before)) (c .before .before .before .before .pre .0) (c .before .before .loop .m) _ (c .before .before .loop .inv .0) _ (c .before .loop-test .taken) (c .row-of .ensures), omega (arith, c .before .loop-test .taken))
+    let at-loop = c .before .before .before in
+    let start = at-loop .before .before in
+    let a = start .args in
+    let going = c .before .before .loop-test .taken in (
+      λ es s. rows-step (a .t .now) (a .t2) (a .list .now) (a .members) (size start) (start .pre .0) (at-loop .loop .m) _ es s (at-loop .loop .inv .0 es s) _ going (c .mark .ensures),
+      omega (arith, going),
+    )
 
 returns : tie.Need-returns Inv-loop μ-loop
 returns c =
-    let a = c .before .before .before .args in
-    rows-end (a .t .now) (a .t2) (a .list .now) (a .members) (size (c .before .before .before)) (c .before .before .before .pre .0) (c .before .loop .m) _ (c .before .loop .inv .0) (omega (arith, c .loop-test .left, c .before .loop .inv .1))
+    let at-loop = c .before in
+    let start = at-loop .before .before in
+    let a = start .args in
+    λ es s. rows-end (a .t .now) (a .t2) (a .list .now) (a .members) (size start) (start .pre .0) (at-loop .loop .m) _ es s (at-loop .loop .inv .0 es s) (omega (arith, c .loop-test .left, at-loop .loop .inv .1))
 
 pub rows-of-spec : {M : Type 1} → statement M
 rows-of-spec =
@@ -70,9 +80,8 @@ rows-of-spec =
     loop-holds
     mul-at
     array-read-at
-    row-of-requires
-    mul-rows
-    array-write-rows
+    cast-mark
+    mark-requires
     add-m
     loop-less
     loop-again

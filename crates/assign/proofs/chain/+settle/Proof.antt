@@ -12,7 +12,7 @@ use borrow.Author.Tests.{not-true, not-false}
 use native.Mathlib.Omega.{arith}
 use borrow.Fn.Kinds.{In}
 use borrow.Fn.PlainCycle.{Measures, is, falls, and}
-use Rattle.masks.specs.Rows.{bit, may, count}
+use Rattle.masks.specs.Rows.{bit, picks, count}
 use Rattle.masks.proofs.Lemmas.{clash}
 use Rattle.masks.proofs.Masks.{row-bits, row-none}
 use Rattle.assign.proofs.Chains.{Walk, unseen, unseen-falls, left-falls, flipped-down, reach-free, begin, turn-seen, turn-stuck, turn-gave, finish, give-spare, filled-spare, filled-chain, settled-found}
@@ -24,7 +24,7 @@ use Rattle.assign.proofs.visit.flip.Reads as flip-reads
 use Rattle.masks.proofs.has.Reads as has-reads
 use Rattle.assign.proofs.visit.lowest.Reads as lowest-reads
 use Rattle.masks.proofs.with.Reads as with-reads
-use Rattle.masks.proofs.rows.choices.Reads as choices-reads
+use Rattle.columns.proofs.choices.Reads as choices-reads
 use Rattle.assign.proofs.chain.+settle.{statement}
 use Rattle.assign.proofs.chain.+settle.Tie.{close}
 
@@ -54,7 +54,7 @@ calls t = (
 )
 
 abbrev Inv : lts.InvT-loop
-Inv rows free held m visited w row seen₀ left₀ seen left = Walk (may rows) (bit free) (bit held) (bit visited) (bit seen) (bit left) w m
+Inv rows free held m visited w row seen₀ left₀ seen left = Walk (picks rows) (bit free) (bit held) (bit visited) (bit seen) (bit left) w m
 
 abbrev μ : lts.MeasureT-loop
 μ rows free held m visited w row seen₀ left₀ seen left = count (bit left) 32
@@ -83,10 +83,10 @@ returns t c =
     let a = start .args in
     let e = chosen .lowest .result in
     let found = chosen .lowest .ensures in
-    let bits = row-bits (a .rows .now) (a .m) (picked .choices .result) (picked .choices .ensures) (a .free) e (found .inside) in
+    let bits = row-bits (a .columns .now) (a .m) (picked .choices .result) (picked .choices .ensures) (a .free) e (found .inside) in
     settled-found (c .give .ensures)
     (give-spare e (size t start) (start .pre .1 .member) (found .low)
-    (reach-free (may (a .rows .now)) (bit (a .free)) (bit (a .held)) (a .m) e (bits .0) (bits .1)) (start .pre .1 .free _ (bits .1)))
+    (reach-free (picks (a .columns .now)) (bit (a .free)) (bit (a .held)) (a .m) e (bits .0) (bits .1)) (start .pre .1 .free _ (bits .1)))
     (filled-spare e (size t start) (start .pre .1 .member) (found .low) (bits .1))
 
 loop-holds : (t : ℕ) → lts.Need-loop-holds (calls t) (at t) settle.Post Inv μ
@@ -107,13 +107,13 @@ array-read-owner t c = omega (arith, c .before .lowest2 .ensures .low)
 -- the place of this turn: m may take it, it was still to be tried, and a member holds it
 here : (t : ℕ) (c : lts.After-flip (calls t) (at t) settle.Post Inv μ)
     → let l = c .before .before .before in let a = l .before .before .before .before .args in
-    (may (a .rows .now) (a .m) (c .before .lowest2 .result) ≡ true) × (bit (l .loop .left) (c .before .lowest2 .result) ≡ true)
+    (picks (a .columns .now) (a .m) (c .before .lowest2 .result) ≡ true) × (bit (l .loop .left) (c .before .lowest2 .result) ≡ true)
     × (getD (a .t4) (c .before .lowest2 .result) 0 < 32)
 here t c =
     let l = c .before .before .before in
     let picked = l .before .before .before in
     let start = picked .before in
-    let bits = row-bits (start .args .rows .now) (start .args .m) (picked .choices .result) (picked .choices .ensures) (l .loop .left) (c .before .lowest2 .result) (c .before .lowest2 .ensures .inside) in
+    let bits = row-bits (start .args .columns .now) (start .args .m) (picked .choices .result) (picked .choices .ensures) (l .loop .left) (c .before .lowest2 .result) (c .before .lowest2 .ensures .inside) in
     (bits .0, bits .1, start .pre .1 .held _ (l .loop .inv .fell _ (bits .1)))
 
 has-requires : (t : ℕ) → lts.Need-has-requires (calls t) (at t) settle.Post Inv μ
@@ -191,8 +191,8 @@ returns-3 t c =
       gave = λ q. absurd (clash q refl);
       filled = λ q. absurd (clash q refl);
       stuck = λ _. finish
-          (λ e. row-none (a .rows .now) (a .m) (picked .choices .result) (picked .choices .ensures) (a .free) e (l .before .if1 .left))
-          (λ e. row-none (a .rows .now) (a .m) (picked .choices .result) (picked .choices .ensures) (l .loop .left) e (c .loop-test .left))
+          (λ e. row-none (a .columns .now) (a .m) (picked .choices .result) (picked .choices .ensures) (a .free) e (l .before .if1 .left))
+          (λ e. row-none (a .columns .now) (a .m) (picked .choices .result) (picked .choices .ensures) (l .loop .left) e (c .loop-test .left))
           (l .loop .inv);
       same = λ _. refl;
     }

@@ -4,7 +4,7 @@ use mathlib.Core.Path.{_≡_, ap, _∙_}
 use mathlib.Core.Bool.{true}
 use Prim.Native.Nat.{ℕ, _+_, _-_, _≤_}
 use native.Mathlib.Omega.{arith}
-use Rattle.masks.specs.Rows.{bit, count, may}
+use Rattle.masks.specs.Rows.{bit, count, picks}
 use Rattle.assign.specs.Saturate.{Dealt}
 use Rattle.assign.specs.Refine.{Rival}
 use Rattle.masks.proofs.Masks.{bit-none}
@@ -14,8 +14,8 @@ use Rattle.assign.proofs.refine.improve.Statement.{statement}
 use Rattle.assign.proofs.refine.improve.Tie as tie
 
 abbrev Inv-loop : tie.InvT-loop
-Inv-loop rows to w e left₀ left = ((m : ℕ) → bit left m ≡ true → Rival (may rows) w e to m)
-    × ((first k from : ℕ) → first + k ≤ 32 → from ≤ e → Dealt (may rows) first k from to w → Going (may rows) first k from to w e (bit left))
+Inv-loop rows to w e left₀ left = ((m : ℕ) → bit left m ≡ true → Rival (picks rows) w e to m)
+    × ((first k from : ℕ) → first + k ≤ 32 → from ≤ e → Dealt (picks rows) first k from to w → Going (picks rows) first k from to w e (bit left))
 
 abbrev μ-loop : tie.MeasureT-loop
 μ-loop rows to w e left₀ left = count (bit left) 32
@@ -33,7 +33,7 @@ lowest-requires c κs = omega (arith, c .loop-test .taken)
 
 -- the rival of this turn
 rival : (c : tie.After-lowest Inv-loop μ-loop) → let l = c .before .before in let a = l .before .before .args in
-    Rival (may (a .rows .now)) (a .w) (a .e) (a .to) (c .lowest .result)
+    Rival (picks (a .columns .now)) (a .w) (a .e) (a .to) (c .lowest .result)
 rival c = c .before .before .loop .inv .0 (c .lowest .result) (c .lowest .ensures .inside)
 
 exchange-requires : tie.Need-exchange-requires Inv-loop μ-loop

@@ -2,7 +2,7 @@
 -- The measure is what is left of the piece. At the last place there is nothing to change. Assumes nothing.
 use Prim.Native.Nat.{ℕ, _+_, _-_, _≤_}
 use native.Mathlib.Omega.{arith}
-use Rattle.masks.specs.Rows.{may}
+use Rattle.masks.specs.Rows.{picks}
 use Rattle.assign.specs.Saturate.{Dealt}
 use Rattle.assign.specs.Refine.{Leads}
 use Rattle.assign.proofs.Firsts.{leads-start, leads-step, leads-last}
@@ -10,7 +10,7 @@ use Rattle.assign.proofs.refine.refine.Statement.{statement}
 use Rattle.assign.proofs.refine.refine.Tie as tie
 
 abbrev Inv-loop : tie.InvT-loop
-Inv-loop rows from to x₀ e₀ x e = (from ≤ e) × (e ≤ to) × ((first k : ℕ) → first + k ≤ 32 → Dealt (may rows) first k from to x₀ → Leads (may rows) first k from to x e)
+Inv-loop rows from to x₀ e₀ x e = (from ≤ e) × (e ≤ to) × ((first k : ℕ) → first + k ≤ 32 → Dealt (picks rows) first k from to x₀ → Leads (picks rows) first k from to x e)
 
 abbrev μ-loop : tie.MeasureT-loop
 μ-loop rows from to x₀ e₀ x e = to - e

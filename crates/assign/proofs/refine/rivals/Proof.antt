@@ -6,7 +6,7 @@ use Prim.Native.Nat.{ℕ, _+_, _-_, _<_, _≤_}
 use native.Mathlib.Omega.{arith}
 use lib.ListN.{getD}
 use borrow.Author.Needs.{needs}
-use Rattle.masks.specs.Rows.{bit, may}
+use Rattle.masks.specs.Rows.{bit, picks}
 use Rattle.assign.specs.Refine.{Rivals}
 use Rattle.masks.proofs.Lemmas.{clash}
 use Rattle.masks.proofs.Masks.{bit-none}
@@ -15,7 +15,7 @@ use Rattle.assign.proofs.refine.rivals.Statement.{statement}
 use Rattle.assign.proofs.refine.rivals.Tie as tie
 
 abbrev Inv-loop : tie.InvT-loop
-Inv-loop rows to e w bound found₀ p₀ found p = (e < p) × (p ≤ to) × Rivals (may rows) w e p (bit found)
+Inv-loop rows to e w bound found₀ p₀ found p = (e < p) × (p ≤ to) × Rivals (picks rows) w e p (bit found)
 
 abbrev μ-loop : tie.MeasureT-loop
 μ-loop rows to e w bound found₀ p₀ found p = to - p
@@ -43,8 +43,8 @@ small : (c : tie.Then1 Inv-loop μ-loop) → let l = c .before .before in let a 
     (getD (a .t3) (l .loop .p) 0 < 32) × (getD (a .t3) (l .loop .p) 0 < getD (a .t3) (a .e) 0)
 small c = let b = c .before .before .before .least .ensures in (omega (arith, c .if1 .taken), omega (arith, c .if1 .taken))
 
-may-take-requires : tie.Need-may-take-requires Inv-loop μ-loop
-may-take-requires c κs = let p = c .before .before .before .before .pre in (small c .0, omega (arith, p .0, p .1))
+may-pick-requires : tie.Need-may-pick-requires Inv-loop μ-loop
+may-pick-requires c κs = let p = c .before .before .before .before .pre in (small c .0, omega (arith, p .0, p .1))
 
 with-requires : tie.Need-with-requires Inv-loop μ-loop
 with-requires c κs = small (c .before .before) .0
@@ -62,7 +62,7 @@ loop-again c =
     let i = l .loop .inv in
     let m = getD (a .t3) (l .loop .p) 0 in
     let b = l .before .least .ensures in
-    let again : ℕ → Type 0 = λ found. Rivals (may (a .rows .now)) (a .t3) (a .e) (l .loop .p + 1) (bit found) in (
+    let again : ℕ → Type 0 = λ found. Rivals (picks (a .columns .now)) (a .t3) (a .e) (l .loop .p + 1) (bit found) in (
       omega arith,
       omega arith,
       ⊎-elim
@@ -89,5 +89,5 @@ returns c =
 pub rivals-spec : {M : Type 1} → statement M
 rivals-spec =
     tie.close
-    (tie.spec Inv-loop μ-loop array-read-least least-requires add-p loop-holds cast-m array-read-m may-take-requires with-requires
+    (tie.spec Inv-loop μ-loop array-read-least least-requires add-p loop-holds cast-m array-read-m may-pick-requires with-requires
     add-p-2 loop-less loop-again returns)

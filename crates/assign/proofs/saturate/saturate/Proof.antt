@@ -1,47 +1,47 @@
--- `saturate` meets its contract. The invariant: w is an assignment by the first j members of the block, and `free` and `held` are its spare and its held places.
--- The measure is how many members are left. Assumes nothing.
-use mathlib.Core.Path.{_≡_, refl}
-use Prim.Native.Nat.{_-_, _<_, _≤_}
+-- `saturate` meets its contract. The invariant: w is an assignment by the members that wait no longer, and `free` and `held` are its spare and its held places.
+-- The measure is how many members wait. Assumes nothing.
+use mathlib.Core.Path.{refl, ap, _∙_}
+use Prim.Native.Nat.{ℕ, _+_, _<_, _≤_}
 use native.Mathlib.Omega.{arith}
 use borrow.Author.Tests.{not-true, not-false}
-use Rattle.masks.specs.Rows.{bit, may}
+use Rattle.masks.specs.Rows.{bit, picks, count}
 use Rattle.assign.specs.Chain.{Opened}
-use Rattle.assign.specs.Saturate.{Dealt}
+use Rattle.assign.specs.Saturate.{Partly}
 use Rattle.masks.proofs.Lemmas.{clash, between-to}
 use Rattle.masks.proofs.Masks.{bit-none}
-use Rattle.assign.proofs.Chains.{opened-ready, opened-filled, placed}
-use Rattle.assign.proofs.Deals.{dealt-empty, dealt-more, dealt-short}
+use Rattle.assign.proofs.Chains.{left-falls, opened-ready, opened-filled, placed}
+use Rattle.assign.proofs.Deals.{partly-done, partly-served, partly-short}
 use Rattle.assign.proofs.saturate.saturate.Statement.{statement}
 use Rattle.assign.proofs.saturate.saturate.Tie as tie
 
 abbrev Inv-loop : tie.InvT-loop
-Inv-loop rows first k from to w₀ free₀ held₀ j₀ w free held j = (j ≤ k) × Dealt (may rows) first j from to w × Opened w from to (bit free) (bit held)
+Inv-loop columns from to left w₀ free₀ held₀ waiting₀ w free held waiting = Opened w from to (bit free) (bit held)
+    × ((first k : ℕ) → first + k ≤ 32 → Partly (picks columns) first k from to w₀ (bit left) → Partly (picks columns) first k from to w (bit waiting))
 
 abbrev μ-loop : tie.MeasureT-loop
-μ-loop rows first k from to w₀ free₀ held₀ j₀ w free held j = k - j
+μ-loop columns from to left w₀ free₀ held₀ waiting₀ w free held waiting = count (bit waiting) 32
 
 open-places-requires : tie.Need-open-places-requires Inv-loop μ-loop
 open-places-requires c κs = (omega arith, omega arith)
 
 loop-holds : tie.Need-loop-holds Inv-loop μ-loop
-loop-holds c = (omega arith, dealt-empty refl, c .open-places .ensures)
+loop-holds c = (c .open-places .ensures, λ first k block partly. partly)
 
-add-settle : tie.Need-add-settle Inv-loop μ-loop
-add-settle c = omega arith
+lowest-requires : tie.Need-lowest-requires Inv-loop μ-loop
+lowest-requires c κs = omega (arith, c .loop-test .taken)
 
 settle-requires : tie.Need-settle-requires Inv-loop μ-loop
-settle-requires c κs = opened-ready (omega arith) (bit-none _) (c .before .loop .inv .2)
+settle-requires c κs = opened-ready (c .lowest .ensures .low) (bit-none _) (c .before .before .loop .inv .0)
 
 -- a group is short
 returns : tie.Need-returns Inv-loop μ-loop
 returns c =
     let called = c .before .before in
-    let l = called .before .before in
-    let i = l .loop .inv in
-    record {
+    let chosen = called .before in
+    let i = chosen .before .before .loop .inv in
+    λ first k block partly. record {
       dealt = λ q. absurd (clash q refl);
-      short = λ _. dealt-short (i .1) (called .before .loop-test .taken) (l .before .before .pre .0)
-          (placed bit-none (i .2) (called .settle .ensures) .blocked (not-true _ (c .if1 .taken)));
+      short = λ _. partly-short (i .1 first k block partly) block (chosen .lowest .ensures .inside) (placed bit-none (i .0) (called .settle .ensures) .blocked (not-true _ (c .if1 .taken)));
       blank = λ _. refl;
     }
 
@@ -49,11 +49,11 @@ returns c =
 taken-low : (c : tie.Else1 Inv-loop μ-loop) → c .before .before .settle .result .taken < 32
 taken-low c =
     let called = c .before .before in
-    let l = called .before .before in
+    let l = called .before .before .before in
     let a = l .before .before .args in
     let f = called .settle .ensures .filled (not-false _ (c .if1 .left)) in
-    let t = between-to (a .from) (a .to) (called .settle .result .taken) (l .loop .inv .2 .free _ (f .inside) .0) in
-    omega (arith, l .before .before .pre .2)
+    let t = between-to (a .from) (a .to) (called .settle .result .taken) (l .loop .inv .0 .free _ (f .inside) .0) in
+    omega (arith, l .before .before .pre .1)
 
 flip-requires : tie.Need-flip-requires Inv-loop μ-loop
 flip-requires c κs = taken-low c
@@ -61,33 +61,50 @@ flip-requires c κs = taken-low c
 with-requires : tie.Need-with-requires Inv-loop μ-loop
 with-requires c κs = taken-low (c .before)
 
-add-j : tie.Need-add-j Inv-loop μ-loop
-add-j c = omega arith
+flip-requires-2 : tie.Need-flip-requires-2 Inv-loop μ-loop
+flip-requires-2 c κs = c .before .before .before .before .before .before .lowest .ensures .low
 
 loop-less : tie.Need-loop-less Inv-loop μ-loop
-loop-less c = omega arith
+loop-less c =
+    let lowest = c .before .before .before .before .before .before .before .lowest in
+    left-falls (lowest .result) (c .flip2 .ensures) (lowest .ensures .inside) (lowest .ensures .low) (λ j h. h)
 
 loop-again : tie.Need-loop-again Inv-loop μ-loop
 loop-again c =
-    let else1 = c .before .before .before in
+    let else1 = c .before .before .before .before in
     let called = else1 .before .before in
-    let l = called .before .before in
-    let i = l .loop .inv in
+    let chosen = called .before in
+    let i = chosen .before .before .loop .inv in
     let found = not-false _ (else1 .if1 .left) in
     let settled = called .settle .ensures in
-    let served = placed bit-none (i .2) settled .served found in (
-      omega arith,
-      dealt-more (i .1) (omega arith) served,
-      opened-filled (i .2) (settled .filled found) served (c .before .before .flip .ensures) (c .before .with .ensures),
+    let served = placed bit-none (i .0) settled .served found in (
+      opened-filled (i .0) (settled .filled found) served (c .before .before .before .flip .ensures) (c .before .before .with .ensures),
+      λ first k block partly. partly-served (i .1 first k block partly) block (chosen .lowest .ensures .inside) (c .flip2 .ensures) served,
     )
 
 returns-2 : tie.Need-returns-2 Inv-loop μ-loop
 returns-2 c =
-    let dealt = c .before .loop .inv .1 in
-    let done : c .before .loop .j ≡ c .before .before .before .args .k = omega arith in
-    record { dealt = λ _. rw done at dealt; short = λ q. absurd (clash refl q); blank = λ q. absurd (clash refl q) }
+    let i = c .before .loop .inv in
+    λ first k block partly. record {
+      dealt = λ _. partly-done (i .1 first k block partly) (λ m. ap (λ (n : ℕ). bit n m) (c .loop-test .left) ∙ bit-none m);
+      short = λ q. absurd (clash refl q);
+      blank = λ q. absurd (clash refl q);
+    }
 
 pub saturate-spec : {M : Type 1} → statement M
 saturate-spec =
     tie.close
-    (tie.spec Inv-loop μ-loop open-places-requires loop-holds add-settle settle-requires returns flip-requires with-requires add-j loop-less loop-again returns-2)
+    (tie.spec
+    Inv-loop
+    μ-loop
+    open-places-requires
+    loop-holds
+    lowest-requires
+    settle-requires
+    returns
+    flip-requires
+    with-requires
+    flip-requires-2
+    loop-less
+    loop-again
+    returns-2)
