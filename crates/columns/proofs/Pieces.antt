@@ -11,8 +11,8 @@ use lib.Seq.{getD-set-same, getD-set-other}
 use Rattle.masks.specs.Rows.{bit, may, picks, between}
 use Rattle.masks.proofs.Lemmas.{same?, and-left, and-right, between-in, between-to, between-none, between-other}
 use Rattle.masks.proofs.Masks.{bit-and, row-may, zeros-may}
-use Rattle.columns.specs.Columns.{Turned}
-use Rattle.columns.specs.Exchange.{Piece, Spans, Within, Transposed}
+use Rattle.columns.specs.Columns.{Turned, Piece, Spans}
+use Rattle.columns.specs.Exchange.{Within, Transposed}
 
 pub piece-none : {rows : List ℕ} {first k from : ℕ} → Piece rows first k from from (replicate 32 0)
 piece-none {rows} {first} {k} {from} = record {

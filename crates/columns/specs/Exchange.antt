@@ -1,14 +1,11 @@
--- What the steps of turning rows do. The cell (i, c) of a list of rows is bit c of row i, `picks rows i c`.
+-- Rows and columns exchanged: what the contracts of src/exchange.rt cite. The cell (i, c) of a list of rows is bit c of row i, `picks rows i c`.
 -- digit j i         == the digit of weight j of i, where j is a power of two
 -- withDigit j i c   == the number i with the digit of weight j that c has
 -- LowColumns j mask <-> the mask has the columns below 32 whose digit of weight j is 0
 -- LowerRow low high j mask r <-> r is the row `low` with cells of `high`, those of the columns in the mask, each j columns on
 -- UpperRow low high j mask r <-> r is the row `high` with cells of `low` in the columns in the mask, each from j columns on
 -- Exchanged j P old new <-> in each row of the set P a cell's row and column have exchanged their digits of weight j; the other rows are the same
--- Piece rows first k from to part <-> part has a row for each element: of the elements from .. to - 1 the members first .. first + k - 1 that may
---   take it, of every other element none
 -- Square s          <-> s is 8, 16 or 32
--- Spans end to s    <-> s is such a number, and neither end nor to is more
 -- Within s rows     <-> all cells that are set stand in the first s rows and columns
 -- Transposed old new <-> each cell's row and column are exchanged
 -- Assumes nothing.
@@ -19,7 +16,7 @@ use mathlib.Core.List.{List}
 use Prim.Native.Nat.{ℕ, _+_, _-_, _*_, _/_, _%_, _≤_, _<_}
 use lib.Dec.{eqb, leb, ltb}
 use lib.ListN.{length}
-use Rattle.masks.specs.Rows.{bit, may, picks, between}
+use Rattle.masks.specs.Rows.{bit, picks}
 
 unfoldable pub digit : ℕ → ℕ → ℕ
 digit j i = i / j % 2
@@ -43,17 +40,8 @@ pub record Exchanged (j : ℕ) (P : ℕ → Bool) (old new : List ℕ) : Type 0 
   pub outside : (i c : ℕ) → P i ≡ false → picks new i c ≡ picks old i c
   pub beyond : (i c : ℕ) → 32 ≤ c → picks new i c ≡ picks old i c
 
-pub record Piece (rows : List ℕ) (first k from to : ℕ) (part : List ℕ) : Type 0 where
-  pub size : length part ≡ 32
-  pub same : (m e : ℕ) → may part m e ≡ (may rows m e && (between first (first + k) m && between from to e))
-
 abbrev pub Square : ℕ → Type 0
 Square s = (s ≡ 8) ⊎ ((s ≡ 16) ⊎ (s ≡ 32))
-
-pub record Spans (end to s : ℕ) : Type 0 where
-  pub square : Square s
-  pub members : end ≤ s
-  pub elements : to ≤ s
 
 pub record Within (s : ℕ) (rows : List ℕ) : Type 0 where
   pub row : (i c : ℕ) → picks rows i c ≡ true → i < s

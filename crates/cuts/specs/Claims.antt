@@ -6,8 +6,8 @@
 -- CutFound      <-> where some list passes `cut_passes`, `first_cut` finds a cut, and the list does not come before it
 -- FillingPasses <-> the filling that `first_filling` finds passes `filling_passes`
 -- FillingFound  <-> where some list passes `filling_passes`, `first_filling` finds a filling, and the list does not come before it
--- NothingChanges <-> what is promised by rows of members and what is promised by rows of elements, where both say the same of every pair, is the same: the cut and the
---   filling that are found, byte for byte, and whether an offered list passes (document 02, request Four)
+-- NothingChanges <-> "no answer or witness changes" (document 02, Four): where rows by member and rows by element say the same of every pair, what they promise
+--   is the same, the cut and the filling that are found, byte for byte, and whether an offered list passes
 -- Assumes nothing.
 use mathlib.Core.Path.{_≡_}
 use mathlib.Core.Bool.{Bool, true, false}

@@ -1,6 +1,6 @@
 -- What this crate promises, as statements; proofs/Claims.antt proves each under its name with a small first letter.
 -- ColumnsOf es xs cols <-> bit e of the row of m says whether member m of es matches element e of xs; every other bit is clear: rows by member
--- SameOfEveryPair <-> rows by element and rows by member say the same of every pair (document 02, request Four)
+-- SameOfEveryPair <-> "both say the same of every pair" (document 02, Four): rows by element and rows by member, of the same members and list
 -- Assumes nothing: these are statements.
 use mathlib.Core.Path.{_≡_}
 use mathlib.Core.Bool.{false}

@@ -3,7 +3,7 @@
 use mathlib.Core.Path.{_≡_}
 use Prim.Native.Nat.{_-_, _≤_}
 use native.Mathlib.Omega.{arith}
-use Rattle.columns.specs.Exchange.{Piece}
+use Rattle.columns.specs.Columns.{Piece}
 use Rattle.columns.proofs.Pieces.{piece-none, piece-more}
 use Rattle.columns.proofs.piece.Statement.{statement}
 use Rattle.columns.proofs.piece.Tie as tie

@@ -1,4 +1,4 @@
--- `columns::exchange_all` meets its contract. The invariant: the rows before k, which are whole blocks of 2 j rows, are exchanged; the others are as
+-- `columns::exchange::exchange_all` meets its contract. The invariant: the rows before k, which are whole blocks of 2 j rows, are exchanged; the others are as
 -- they were. The measure is how many rows are left. Assumes nothing.
 use mathlib.Core.Path.{_≡_}
 use Prim.Native.Nat.{_+_, _-_, _*_, _%_, _≤_}
@@ -8,8 +8,8 @@ use Rattle.masks.specs.Rows.{between}
 use Rattle.columns.specs.Exchange.{Exchanged}
 use Rattle.columns.proofs.Digits.{block-fits, block-next}
 use Rattle.columns.proofs.Exchanges.{blocks-none, blocks-more}
-use Rattle.columns.proofs.exchange_all.Statement.{statement}
-use Rattle.columns.proofs.exchange_all.Tie as tie
+use Rattle.columns.proofs.exchange.exchange_all.Statement.{statement}
+use Rattle.columns.proofs.exchange.exchange_all.Tie as tie
 
 abbrev Inv-loop : tie.InvT-loop
 Inv-loop a₀ size j mask k₀ a k = (k ≤ size) × (k % (2 * j) ≡ 0) × Exchanged j (between 0 k) a₀ a
@@ -20,8 +20,8 @@ abbrev μ-loop : tie.MeasureT-loop
 loop-holds : tie.Need-loop-holds Inv-loop μ-loop
 loop-holds c = (omega arith, zero-mod (2 * c .args .j), blocks-none (c .pre .4))
 
-exchange-requires : tie.Need-exchange-requires Inv-loop μ-loop
-exchange-requires c κs =
+exchange-block-requires : tie.Need-exchange-block-requires Inv-loop μ-loop
+exchange-block-requires c κs =
     let l = c .before .before in
     let p = l .before .pre in
     let i = l .loop .inv in
@@ -29,7 +29,7 @@ exchange-requires c κs =
     (p .0, i .1, omega arith, p .3, i .2 .size)
 
 -- a whole block is left
-next-fits : (c : tie.After-exchange Inv-loop μ-loop) → c .before .before .before .loop .k + 2 * c .before .before .before .before .args .j ≤ c .before .before .before .before .args .size
+next-fits : (c : tie.After-exchange-block Inv-loop μ-loop) → c .before .before .before .loop .k + 2 * c .before .before .before .before .args .j ≤ c .before .before .before .before .args .size
 next-fits c =
     let l = c .before .before .before in
     block-fits (l .before .args .j) (l .loop .k) (l .before .args .size) (l .loop .inv .1) (l .before .pre .1) (omega arith)
@@ -51,7 +51,7 @@ loop-again c =
     let l = c .before .before .before in
     let p = l .before .pre in
     let i = l .loop .inv in
-    (next-fits c, block-next (l .before .args .j) (l .loop .k) (p .0) (i .1), blocks-more (l .loop .k) (p .0) (i .1) (i .2) (c .exchange .ensures))
+    (next-fits c, block-next (l .before .args .j) (l .loop .k) (p .0) (i .1), blocks-more (l .loop .k) (p .0) (i .1) (i .2) (c .exchange-block .ensures))
 
 returns : tie.Need-returns Inv-loop μ-loop
 returns c =
@@ -66,7 +66,7 @@ exchange-all-spec =
     Inv-loop
     μ-loop
     loop-holds
-    exchange-requires
+    exchange-block-requires
     mul-k
     add-k
     loop-less

@@ -1,12 +1,12 @@
--- `columns::exchange` meets its contract. The invariant: the rows before i, and those j rows on, are exchanged with each other; the others are as
+-- `columns::exchange::exchange_block` meets its contract. The invariant: the rows before i, and those j rows on, are exchanged with each other; the others are as
 -- they were. The measure is how many pairs are left. Assumes nothing.
 use mathlib.Core.Path.{_≡_}
 use Prim.Native.Nat.{_+_, _-_, _≤_}
 use native.Mathlib.Omega.{arith}
 use Rattle.columns.specs.Exchange.{Exchanged}
 use Rattle.columns.proofs.Exchanges.{pairs, pairs-none, pairs-more, pairs-done}
-use Rattle.columns.proofs.exchange.Statement.{statement}
-use Rattle.columns.proofs.exchange.Tie as tie
+use Rattle.columns.proofs.exchange.exchange_block.Statement.{statement}
+use Rattle.columns.proofs.exchange.exchange_block.Tie as tie
 
 abbrev Inv-loop : tie.InvT-loop
 Inv-loop a₀ from j mask i₀ a i = (from ≤ i) × (i ≤ from + j) × Exchanged j (pairs j from i) a₀ a
@@ -82,8 +82,8 @@ returns c =
     let done : l .i ≡ c .before .before .args .from + c .before .before .args .j = omega arith in
     pairs-done (c .before .before .args .from) (rw done at e)
 
-pub exchange-spec : {M : Type 1} → statement M
-exchange-spec =
+pub exchange-block-spec : {M : Type 1} → statement M
+exchange-block-spec =
     tie.close
     (tie.spec
     Inv-loop

@@ -1,8 +1,8 @@
--- `columns::upper_row` meets its contract: `upper-row` says what the exclusive or with the difference does. Assumes nothing.
+-- `columns::exchange::upper_row` meets its contract: `upper-row` says what the exclusive or with the difference does. Assumes nothing.
 use borrow.Author.Needs.{needs}
 use Rattle.columns.proofs.Shifts.{upper-row}
-use Rattle.columns.proofs.upper_row.Statement.{statement}
-use Rattle.columns.proofs.upper_row.Tie as tie
+use Rattle.columns.proofs.exchange.upper_row.Statement.{statement}
+use Rattle.columns.proofs.exchange.upper_row.Tie as tie
 
 shr-result : tie.Need-shr-result
 shr-result c = search needs

@@ -1,10 +1,10 @@
--- `columns::transpose` meets its contract: after the exchanges of weights 1, 2, 4 the digits below 8 are exchanged, and so on. Assumes nothing.
+-- `columns::exchange::transpose` meets its contract: after the exchanges of weights 1, 2, 4 the digits below 8 are exchanged, and so on. Assumes nothing.
 use mathlib.Core.Path.{refl}
 use native.Mathlib.Omega.{arith}
 use lib.Dec.{lit<}
 use Rattle.columns.proofs.Transposes.{low-1, low-2, low-4, low-8, low-16, Mixed, mixed-none, mixed-more, mixed-all, sizes}
-use Rattle.columns.proofs.transpose.Statement.{statement}
-use Rattle.columns.proofs.transpose.Tie as tie
+use Rattle.columns.proofs.exchange.transpose.Statement.{statement}
+use Rattle.columns.proofs.exchange.transpose.Tie as tie
 
 -- after the third exchange
 mixed-8 : (c : tie.After-exchange-all3)

@@ -1,8 +1,8 @@
--- `columns::lower_row` meets its contract: `lower-row` says what the exclusive or with the shifted difference does. Assumes nothing.
+-- `columns::exchange::lower_row` meets its contract: `lower-row` says what the exclusive or with the shifted difference does. Assumes nothing.
 use borrow.Author.Needs.{needs}
 use Rattle.columns.proofs.Shifts.{lower-row}
-use Rattle.columns.proofs.lower_row.Statement.{statement}
-use Rattle.columns.proofs.lower_row.Tie as tie
+use Rattle.columns.proofs.exchange.lower_row.Statement.{statement}
+use Rattle.columns.proofs.exchange.lower_row.Tie as tie
 
 shr-result : tie.Need-shr-result
 shr-result c = search needs
