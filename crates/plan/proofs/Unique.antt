@@ -2,12 +2,13 @@
 -- Assumes nothing.
 use mathlib.Core.Path.{_≡_, sym, ap, _∙_}
 use mathlib.Core.Logic.{⊎-elim}
+use mathlib.Core.Bool.{Bool, false}
 use mathlib.Core.List.{List}
 use Prim.Native.Nat.{ℕ, _≤_, _<_}
 use native.Mathlib.Omega.{arith}
 use lib.ListN.{length, getD, take}
 use lib.Seq.{ext-getD, length-take-le}
-use lib.IntN.{ℤ}
+use lib.IntN.{ℤ, pos}
 use borrow.Fn.Kinds.{Dens, resT, endedOf}
 use contract.Lifetimes.{Lfts}
 use denote.Triple.Clauses.{AtExit}
@@ -15,8 +16,11 @@ use Rattle.words.proofs.Cases.{below}
 use Rattle.template.specs.Element.{Elem}
 use Rattle.template.specs.Template.{Body, Length}
 use Rattle.template.specs.Leaf.{Leaf}
-use Rattle.masks.specs.Rows.{bit, may}
-use Rattle.masks.proofs.Masks.{bits-same}
+use Rattle.masks.specs.Rows.{may, picks}
+use Rattle.masks.proofs.Masks.{bits-same, row-may}
+use Rattle.element.specs.Matches.{matches}
+use Rattle.plan.specs.Members.{memberHits}
+use Rattle.plan.specs.Claims.{ColumnsOf}
 use Rattle.plan.specs.Contract.{Planned, PlanOf, noPlan, aPlan, RowsOf}
 use Rattle.plan.specs.declared.Plan.{Plan}
 use Rattle.plan.proofs.plan_of.Reads as plan-of
@@ -26,20 +30,36 @@ use Rattle.plan.proofs.rows_of.Kinds as rows-of-kinds
 
 -- ---- rows
 
+-- which member matches which element, however it is held
+record Says (es : List (Elem Leaf)) (xs : List ℤ) (ok : ℕ → ℕ → Bool) : Type 0 where
+  right : (m e : ℕ) → m < length es → e < length xs → ok m e ≡ memberHits matches es m (getD xs e (pos 0))
+  noMember : (m e : ℕ) → length es ≤ m → ok m e ≡ false
+  noElement : (m e : ℕ) → length xs ≤ e → ok m e ≡ false
+
+rows-say : {es : List (Elem Leaf)} {xs : List ℤ} {rows : List ℕ} → RowsOf es xs rows → Says es xs (may rows)
+rows-say p = record { right = p .right; noMember = p .noMember; noElement = p .noElement }
+
+columns-say : {es : List (Elem Leaf)} {xs : List ℤ} {cols : List ℕ} → ColumnsOf es xs cols → Says es xs (picks cols)
+columns-say p = record { right = p .right; noMember = p .noMember; noElement = p .noElement }
+
+says-same : {es : List (Elem Leaf)} {xs : List ℤ} {ok ok′ : ℕ → ℕ → Bool} → Says es xs ok → Says es xs ok′ → (m e : ℕ) → ok m e ≡ ok′ m e
+says-same {es} {xs} p q m e =
+    ⊎-elim
+    (λ (i : m < length es). ⊎-elim
+    (λ (j : e < length xs). p .right m e i j ∙ sym (q .right m e i j))
+    (λ (j : length xs ≤ e). p .noElement m e j ∙ sym (q .noElement m e j))
+    (below e (length xs)))
+    (λ (i : length es ≤ m). p .noMember m e i ∙ sym (q .noMember m e i))
+    (below m (length es))
+
+-- rows by member and rows by element of the same members and list
+pub pairs-same : {es : List (Elem Leaf)} {xs : List ℤ} {rows cols : List ℕ} → RowsOf es xs rows → ColumnsOf es xs cols → (m e : ℕ) → picks cols m e ≡ may rows m e
+pairs-same p q = says-same (columns-say q) (rows-say p)
+
 -- the rows depend on the members only, not on the places where equal ones are found
 pub rows-same : (es : List (Elem Leaf)) (xs : List ℤ) (rows rows′ : List ℕ) → RowsOf es xs rows → RowsOf es xs rows′ → rows ≡ rows′
-unfolding may
-rows-same es xs rows rows′ p q = ext-getD 0 rows rows′ (p .size ∙ sym (q .size)) (λ e l. bits-same (getD rows e 0) (getD rows′ e 0) (λ m. bits m e))
-  where
-    bits : (m e : ℕ) → bit (getD rows e 0) m ≡ bit (getD rows′ e 0) m
-    bits m e =
-        ⊎-elim
-        (λ (i : m < length es). ⊎-elim
-        (λ (j : e < length xs). p .right m e i j ∙ sym (q .right m e i j))
-        (λ (j : length xs ≤ e). p .noElement m e j ∙ sym (q .noElement m e j))
-        (below e (length xs)))
-        (λ (i : length es ≤ m). p .noMember m e i ∙ sym (q .noMember m e i))
-        (below m (length es))
+rows-same es xs rows rows′ p q = ext-getD 0 rows rows′ (p .size ∙ sym (q .size))
+    (λ e l. bits-same (getD rows e 0) (getD rows′ e 0) (λ m. row-may rows m e ∙ says-same (rows-say p) (rows-say q) m e ∙ sym (row-may rows′ m e)))
 
 pub rows-of-unique : (κs : Lfts 2) (a : Dens κs rows-of-kinds.ps) (r r′ : resT rows-of-kinds.r κs .Denot) (s s′ : AtExit (endedOf 2 rows-of-kinds.ps rows-of-kinds.r) κs)
     → rows-of.Pre κs a → rows-of.Post κs a r s → rows-of.Post κs a r′ s′ → r ≡ r′
