@@ -21,7 +21,7 @@ use Rattle.template.specs.Template.{Item, grouped, one, spares, permutation, Bo
 use Rattle.template.specs.Whole.{readTemplate}
 use Rattle.element.specs.Matches.{matches}
 use Rattle.plan.specs.Members.{memberHits}
-use Rattle.template.specs.Blocks.{blockOfGroup, blockOfItem, blocksOfItems, blocksOf, isSubset, lowOf, highOf, Standing}
+use Rattle.template.specs.Blocks.{blockOfGroup, blockOfItem, blocksOfItems, blocksOf, bodyKind, lowOf, highOf, Standing}
 use Rattle.plan.specs.Contract.{Planned, PlanOf, noPlan, aPlan, RowsOf}
 use Rattle.plan.specs.declared.Plan.{Plan}
 use Rattle.matcher.specs.Obeys.{rightBytes, noneTwice, bodyMet, lengthMet, obeysBy, obeys}
@@ -247,18 +247,18 @@ copy-length w room i a b =
 -- ---- by the plan
 
 -- a body that is no subset is cut by its blocks; a subset is filled by its members
-cut-body : (b : Body Leaf) (related : ℕ → ℕ → Bool) (n : ℕ) (P : (List ℕ → Type 0) → Type 0) → isSubset b ≡ false → P (Cuts related (blocksOf b) 0 n) → P (ByBlocks b related n)
-unfolding isSubset ByBlocks
+cut-body : (b : Body Leaf) (related : ℕ → ℕ → Bool) (n : ℕ) (P : (List ℕ → Type 0) → Type 0) → (bodyKind b ≡ 0x13 → ⊥) → P (Cuts related (blocksOf b) 0 n) → P (ByBlocks b related n)
+unfolding bodyKind ByBlocks
 cut-body (recordOf is) related n P e h = h
 cut-body (setOf g) related n P e h = h
 cut-body (superset es) related n P e h = h
-cut-body (subset es) related n P e h = absurd (mathlib.Core.Bool.true≢false e)
+cut-body (subset es) related n P e h = absurd (e refl)
 
-fill-body : (b : Body Leaf) (related : ℕ → ℕ → Bool) (n : ℕ) (P : (List ℕ → Type 0) → Type 0) → isSubset b ≡ true → P (Fills related (length (membersOf b)) n) → P (ByBlocks b related n)
-unfolding isSubset ByBlocks membersOf
-fill-body (recordOf is) related n P e h = absurd (mathlib.Core.Bool.true≢false (sym e))
-fill-body (setOf g) related n P e h = absurd (mathlib.Core.Bool.true≢false (sym e))
-fill-body (superset es) related n P e h = absurd (mathlib.Core.Bool.true≢false (sym e))
+fill-body : (b : Body Leaf) (related : ℕ → ℕ → Bool) (n : ℕ) (P : (List ℕ → Type 0) → Type 0) → bodyKind b ≡ 0x13 → P (Fills related (length (membersOf b)) n) → P (ByBlocks b related n)
+unfolding bodyKind ByBlocks membersOf
+fill-body (recordOf is) related n P e h = absurd (omega arith)
+fill-body (setOf g) related n P e h = absurd (omega arith)
+fill-body (superset es) related n P e h = absurd (omega arith)
 fill-body (subset es) related n P e h = h
 
 module _ (t : List ℕ) (p : Plan) (xs : List ℤ) (short : length xs ≤ 32) (met : Bool) (says : met ≡ (leb (p .low) (length xs) && leb (length xs) (p .high))) where
@@ -278,23 +278,23 @@ module _ (t : List ℕ) (p : Plan) (xs : List ℤ) (short : length xs ≤ 32) (m
     few : (a : Length) (b : Body Leaf) → Planned t a b p → length (membersOf b) ≤ 32
     few a b pl = let s = pl .size in let f = pl .fewMembers in omega arith
 
-    pub cut-first : (found : Bool) (w : List ℕ) → p .subset ≡ false → Best (Cuts (may rows) (take (p .count) (p .blocks)) 0 (length xs)) (length xs) found w → FirstBy t p xs found w
+    pub cut-first : (found : Bool) (w : List ℕ) → (p .kind ≡ 0x13 → ⊥) → Best (Cuts (may rows) (take (p .count) (p .blocks)) 0 (length xs)) (length xs) found w → FirstBy t p xs found w
     cut-first found w k h a b pl =
         best-obeys a b (may rows) xs (agrees a b pl) (few a b pl) short found w (sym (length-by a b pl) ∙ m)
-        (cut-body b (may rows) (length xs) (λ Q. Best Q (length xs) found w) (sym (pl .kind) ∙ k) (rw (pl .cut) at h))
+        (cut-body b (may rows) (length xs) (λ Q. Best Q (length xs) found w) (λ e. k (pl .kind ∙ e)) (rw (pl .cut) at h))
 
-    pub fill-first : (found : Bool) (w : List ℕ) → p .subset ≡ true → Best (Fills (may rows) (p .members) (length xs)) (length xs) found w → FirstBy t p xs found w
+    pub fill-first : (found : Bool) (w : List ℕ) → p .kind ≡ 0x13 → Best (Fills (may rows) (p .members) (length xs)) (length xs) found w → FirstBy t p xs found w
     fill-first found w k h a b pl =
         best-obeys a b (may rows) xs (agrees a b pl) (few a b pl) short found w (sym (length-by a b pl) ∙ m)
         (fill-body b (may rows) (length xs) (λ Q. Best Q (length xs) found w) (sym (pl .kind) ∙ k) (rw (pl .size) at h))
 
     module _ (w : List ℕ) (size : length w ≡ length xs) (r : Bool) where
-      pub cut-passed : p .subset ≡ false → Passing (Cuts (may rows) (take (p .count) (p .blocks)) 0 (length w) w) r → PassedBy t p xs w r
+      pub cut-passed : (p .kind ≡ 0x13 → ⊥) → Passing (Cuts (may rows) (take (p .count) (p .blocks)) 0 (length w) w) r → PassedBy t p xs w r
       cut-passed k h a b pl =
           pass-obeys a b (may rows) xs (agrees a b pl) (few a b pl) short w r (sym (length-by a b pl) ∙ m)
-          (cut-body b (may rows) (length xs) (λ Q. Passing (Q w) r) (sym (pl .kind) ∙ k) (rw (pl .cut, size) at h))
+          (cut-body b (may rows) (length xs) (λ Q. Passing (Q w) r) (λ e. k (pl .kind ∙ e)) (rw (pl .cut, size) at h))
 
-      pub fill-passed : p .subset ≡ true → Passing (Fills (may rows) (p .members) (length w) w) r → PassedBy t p xs w r
+      pub fill-passed : p .kind ≡ 0x13 → Passing (Fills (may rows) (p .members) (length w) w) r → PassedBy t p xs w r
       fill-passed k h a b pl =
           pass-obeys a b (may rows) xs (agrees a b pl) (few a b pl) short w r (sym (length-by a b pl) ∙ m)
           (fill-body b (may rows) (length xs) (λ Q. Passing (Q w) r) (sym (pl .kind) ∙ k) (rw (pl .size, size) at h))

@@ -29,6 +29,8 @@ const OTHER_LENGTH: u8 = 13;
 
 const SPARE: u8 = 255;
 
+const SUBSET: u8 = 0x13;
+
 // Whether a list of n elements meets the length attribute.
 fn length_met(low: u8, high: u8, n: usize) -> bool
     ensures { λ r. ⌜ r ≡ (leb low n && leb n high) ⌝ }
@@ -50,7 +52,7 @@ fn first_witness(t: &[u8], p: Plan, list: &[i32]) -> Found
     }
     let places = p.places;
     let rows = rows_of(t, places, p.members, list);
-    if p.subset {
+    if p.kind == SUBSET {
         return first_filling(&rows, p.members as u8, n as u8);
     }
     let blocks = p.blocks;
@@ -67,7 +69,7 @@ fn witness_passes(t: &[u8], p: Plan, list: &[i32], w: &[u8]) -> bool
     }
     let places = p.places;
     let rows = rows_of(t, places, p.members, list);
-    if p.subset {
+    if p.kind == SUBSET {
         return filling_passes(&rows, p.members as u8, w);
     }
     let blocks = p.blocks;

@@ -16,7 +16,7 @@ use Rattle.plan.specs.Contract.{PlanOf, noPlan, aPlan}
 
 module _ (t : List ℕ) (l : Layout) (places : List ℕ) where
   pub planned : LayoutOf t l places
-      → PlanOf t (record { number = l .number; low = l .low; high = l .high; subset = l .subset; count = l .count; blocks = l .blocks; members = l .members; places = places })
+      → PlanOf t (record { number = l .number; low = l .low; high = l .high; kind = l .kind; count = l .count; blocks = l .blocks; members = l .members; places = places })
   planned (nothingLaid number q p e) = let same : l .number ≡ number = ap (λ (x : Layout). x .number) e in noPlan (q ∙ ap refuse (sym same)) (omega arith)
   planned (allLaid a b q z w) =
       aPlan a b q z

@@ -72,7 +72,7 @@ pub record SamePlan (p p′ : Plan) : Type 0 where
   pub number : p .number ≡ p′ .number
   pub low : p .number ≡ 0 → p .low ≡ p′ .low
   pub high : p .number ≡ 0 → p .high ≡ p′ .high
-  pub subset : p .number ≡ 0 → p .subset ≡ p′ .subset
+  pub kind : p .number ≡ 0 → p .kind ≡ p′ .kind
   pub members : p .number ≡ 0 → p .members ≡ p′ .members
   pub cut : p .number ≡ 0 → take (p .count) (p .blocks) ≡ take (p′ .count) (p′ .blocks)
   pub count : p .number ≡ 0 → length (p .blocks) ≡ 32 → length (p′ .blocks) ≡ 32 → p .count ≡ p′ .count
@@ -82,7 +82,7 @@ planned-same t a b p p′ z z′ x y = record {
   number = z ∙ sym z′;
   low = λ e. x .lower ∙ sym (y .lower);
   high = λ e. x .upper ∙ sym (y .upper);
-  subset = λ e. x .kind ∙ sym (y .kind);
+  kind = λ e. x .kind ∙ sym (y .kind);
   members = λ e. x .size ∙ sym (y .size);
   cut = λ e. x .cut ∙ sym (y .cut);
   count = λ e l l′. sym (length-take-le (p .count) (p .blocks) (omega (arith, x .fewBlocks))) ∙ ap length (x .cut ∙ sym (y .cut)) ∙ length-take-le (p′ .count) (p′ .blocks) (omega (arith, y .fewBlocks));
@@ -95,7 +95,7 @@ plan-same t p p′ (noPlan q l) (noPlan q′ l′) =
       number = n;
       low = λ e. absurd (omega arith);
       high = λ e. absurd (omega arith);
-      subset = λ e. absurd (omega arith);
+      kind = λ e. absurd (omega arith);
       members = λ e. absurd (omega arith);
       cut = λ e. absurd (omega arith);
       count = λ e. absurd (omega arith);

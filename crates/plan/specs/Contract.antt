@@ -1,6 +1,6 @@
 -- What the functions say.
 -- Planned t a b p <-> the plan p says of the template with the length attribute a and the body b, whose bytes are t: its length bounds,
---                    whether it is a subset, its blocks, and where its members stand
+--                    its kind, its blocks, and where its members stand
 -- PlanOf t p     <-> p is the plan of the bytes t: the refusal's number, or 0 and what Planned says
 -- RowsOf es xs rows <-> bit m of row e says whether member m of es matches element e of xs; every other bit is clear
 -- Assumes nothing: these are definitions.
@@ -17,14 +17,14 @@ use Rattle.template.specs.Reading.{refuse, got}
 use Rattle.template.specs.Whole.{readTemplate}
 use Rattle.element.specs.Matches.{matches}
 use Rattle.masks.specs.Rows.{may}
-use Rattle.template.specs.Blocks.{blocksOf, isSubset, lowOf, highOf, Standing}
+use Rattle.template.specs.Blocks.{blocksOf, bodyKind, lowOf, highOf, Standing}
 use Rattle.plan.specs.Members.{memberHits}
 use Rattle.plan.specs.declared.Plan.{Plan}
 
 pub record Planned (t : List ℕ) (a : Length) (b : Body Leaf) (p : Plan) : Type 0 where
   pub lower : p .low ≡ lowOf a
   pub upper : p .high ≡ highOf a
-  pub kind : p .subset ≡ isSubset b
+  pub kind : p .kind ≡ bodyKind b
   pub fewBlocks : p .count ≤ 32
   pub cut : take (p .count) (p .blocks) ≡ blocksOf b
   pub fewMembers : p .members ≤ 32

@@ -16,12 +16,13 @@ use template::whole::read_template;
 use words::int_at;
 use words::within;
 
-// The refusal's number or 0; the least and greatest length of the list; the blocks, the first `count`; the places of the members.
+// The refusal's number or 0; the least and greatest length of the list; the body's kind; the blocks, the first `count`; the places of the
+// members.
 pub struct Plan {
     pub number: u8,
     pub low: u8,
     pub high: u8,
-    pub subset: bool,
+    pub kind: u8,
     pub count: usize,
     pub blocks: [Block; 32],
     pub members: usize,
@@ -115,7 +116,7 @@ pub fn plan_of(t: &[u8]) -> Plan
         number: l.number,
         low: l.low,
         high: l.high,
-        subset: l.subset,
+        kind: l.kind,
         count: l.count,
         blocks,
         members: l.members,

@@ -34,20 +34,30 @@ first-filling-requires c κs = search needs
 
 returns-2 : tie.Need-returns-2
 returns-2 c =
-    let a = c .before .before .before .before .before .before .before .before .before .args in
-    fill-first (a .t .now) (a .p) (a .list .now) (c .before .before .before .before .before .before .before .before .before .pre .short) _ (c .before .before .before .before .before .before .before .length-met .ensures) _ (c .before .before .before .before .rows-of .ensures) (not-false _ (c .before .before .before .before .before .before .if1 .left)) _ _ (c .before .before .before .if2 .taken) (c .first-filling .ensures)
+    let arm = c .before .before .before in
+    let marked = arm .before .before in
+    let met = marked .before .before in
+    let start = met .before .before .before in
+    let a = start .args in
+    fill-first (a .t .now) (a .p) (a .list .now) (start .pre .short) _ (met .before .length-met .ensures) _ (marked .rows-of .ensures) (not-false _ (met .if1 .left)) _ _ (arm .if2 .taken) (c .first-filling .ensures)
 
 cast-first-cut : tie.Need-cast-first-cut
 cast-first-cut c = search needs
 
 first-cut-requires : tie.Need-first-cut-requires
 first-cut-requires c κs =
-    let r = ready-inside _ _ _ (c .before .before .before .before .before .before .before .before .pre) in (r .0, c .before .before .before .before .before .before .before .before .pre .short, r .1)
+    let ready = c .before .before .before .before .before .before .before .before .before .pre in
+    let r = ready-inside _ _ _ ready in
+    (r .0, ready .short, r .1)
 
 returns-3 : tie.Need-returns-3
 returns-3 c =
-    let a = c .before .before .before .before .before .before .before .before .before .args in
-    cut-first (a .t .now) (a .p) (a .list .now) (c .before .before .before .before .before .before .before .before .before .pre .short) _ (c .before .before .before .before .before .before .before .length-met .ensures) _ (c .before .before .before .before .rows-of .ensures) (not-false _ (c .before .before .before .before .before .before .if1 .left)) _ _ (c .before .before .before .if2 .left) (c .first-cut .ensures)
+    let arm = c .before .before .before in
+    let marked = arm .before .before in
+    let met = marked .before .before in
+    let start = met .before .before .before in
+    let a = start .args in
+    cut-first (a .t .now) (a .p) (a .list .now) (start .pre .short) _ (met .before .length-met .ensures) _ (marked .rows-of .ensures) (not-false _ (met .if1 .left)) _ _ (arm .if2 .left) (c .first-cut .ensures)
 
 pub first-witness-spec : {M : Type 1} → statement M
 first-witness-spec =

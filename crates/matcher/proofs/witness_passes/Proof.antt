@@ -31,17 +31,27 @@ filling-passes-requires c κs = search needs
 
 returns-2 : tie.Need-returns-2
 returns-2 c =
-    let a = c .before .before .before .before .before .before .before .before .before .before .args in
-    fill-passed (a .t .now) (a .p) (a .list .now) (c .before .before .before .before .before .before .before .before .before .before .pre .0 .short) _ (c .before .before .before .before .before .before .before .length-met .ensures) _ (c .before .before .before .before .rows-of .ensures) (not-false _ (c .before .before .before .before .before .before .if1 .left)) _ (c .before .before .before .before .before .before .before .before .before .before .pre .1) _ (c .before .before .before .if2 .taken) (c .filling-passes .ensures)
+    let arm = c .before .before .before in
+    let marked = arm .before .before in
+    let met = marked .before .before in
+    let start = met .before .before .before .before in
+    let a = start .args in
+    fill-passed (a .t .now) (a .p) (a .list .now) (start .pre .0 .short) _ (met .before .length-met .ensures) _ (marked .rows-of .ensures) (not-false _ (met .if1 .left)) _ (start .pre .1) _ (arm .if2 .taken) (c .filling-passes .ensures)
 
 cut-passes-requires : tie.Need-cut-passes-requires
 cut-passes-requires c κs =
-    let r = ready-inside _ _ _ (c .before .before .before .before .before .before .before .before .before .pre .0) in (r .0, omega (arith, c .before .before .before .before .before .before .before .before .before .pre .1, c .before .before .before .before .before .before .before .before .before .pre .0 .short), r .1)
+    let asked = c .before .before .before .before .before .before .before .before .before .before .pre in
+    let r = ready-inside _ _ _ (asked .0) in
+    (r .0, omega (arith, asked .1, asked .0 .short), r .1)
 
 returns-3 : tie.Need-returns-3
 returns-3 c =
-    let a = c .before .before .before .before .before .before .before .before .before .before .args in
-    cut-passed (a .t .now) (a .p) (a .list .now) (c .before .before .before .before .before .before .before .before .before .before .pre .0 .short) _ (c .before .before .before .before .before .before .before .length-met .ensures) _ (c .before .before .before .before .rows-of .ensures) (not-false _ (c .before .before .before .before .before .before .if1 .left)) _ (c .before .before .before .before .before .before .before .before .before .before .pre .1) _ (c .before .before .before .if2 .left) (c .cut-passes .ensures)
+    let arm = c .before .before .before in
+    let marked = arm .before .before in
+    let met = marked .before .before in
+    let start = met .before .before .before .before in
+    let a = start .args in
+    cut-passed (a .t .now) (a .p) (a .list .now) (start .pre .0 .short) _ (met .before .length-met .ensures) _ (marked .rows-of .ensures) (not-false _ (met .if1 .left)) _ (start .pre .1) _ (arm .if2 .left) (c .cut-passes .ensures)
 
 pub witness-passes-spec : {M : Type 1} → statement M
 witness-passes-spec =
