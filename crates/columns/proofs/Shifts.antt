@@ -3,15 +3,15 @@ use mathlib.Core.Path.{_≡_, refl, sym, ap, _∙_, subst}
 use mathlib.Core.Logic.{⊎-elim}
 use mathlib.Core.Bool.{Bool, true, false, cond, _&&_}
 use Prim.Native.Nat.{ℕ, suc, _+_, _-_, _*_, _/_, _%_, _^_, _≤_, _<_}
-use native.Mathlib.Nat.{add-comm, mul-assoc, mod-lt, div-eq-of-lt, lt-of-lt-of-le}
+use native.Mathlib.Nat.{add-comm, mul-assoc}
 use native.Mathlib.Omega.{arith}
 use lib.Dec.{eqb, leb}
 use lib.Bits.{bitAnd, bitXor, shifted-even}
-use lib.Pow.{pow-pos, pow-mono, pow-add, shl-shr, shr-shr, field, mod-mod-pow}
+use lib.Pow.{pow-add, shl-shr, shr-shr, field, mod-mod-pow}
 use borrow.Author.Tests.{le-leb, lt-leb}
 use Rattle.masks.specs.Rows.{bit}
 use Rattle.masks.proofs.Lemmas.{below?}
-use Rattle.masks.proofs.Masks.{odd, bit-and, bit-xor}
+use Rattle.masks.proofs.Masks.{odd, bit-and, bit-xor, bit-past}
 use Rattle.columns.specs.Exchange.{LowerRow, UpperRow}
 
 -- ---- shifts
@@ -26,17 +26,13 @@ bit-shl-low : (t d c : ℕ) → bit (t * 2 ^ (suc d + c)) c ≡ false
 unfolding bit
 bit-shl-low t d c = rw (pow-add, ← mul-assoc, shl-shr, shifted-even)
 
--- a number cut to n bits has its bits below n, and no others
+-- a number cut to n bits has its bits below n
 bit-cut-at : (x d c : ℕ) → bit (x % 2 ^ ((d + 1) + c)) c ≡ bit x c
 unfolding bit
 bit-cut-at x d c = ap (λ (z : ℕ). eqb (z % 2) 1) (field x (d + 1) c) ∙ ap (λ (z : ℕ). eqb z 1) (mod-mod-pow (x / 2 ^ c) d 1)
 
 bit-cut : (n x c : ℕ) → c < n → bit (x % 2 ^ n) c ≡ bit x c
 bit-cut n x c l = subst (λ (k : ℕ). bit (x % 2 ^ k) c ≡ bit x c) (omega arith) (bit-cut-at x (n - suc c) c)
-
-pub bit-past : (n x c : ℕ) → n ≤ c → bit (x % 2 ^ n) c ≡ false
-unfolding bit
-bit-past n x c l = ap (λ (z : ℕ). eqb (z % 2) 1) (div-eq-of-lt (lt-of-lt-of-le (mod-lt x (pow-pos n)) (pow-mono l)))
 
 -- ---- the two rows
 taken-high : (h l m : Bool) → odd (odd h l && m) l ≡ cond m h l

@@ -11,8 +11,8 @@ use lib.ListN.{length}
 use borrow.Author.Tests.{lt-ltb, le-ltb}
 use Rattle.masks.specs.Rows.{bit, picks, between}
 use Rattle.masks.proofs.Lemmas.{same?, below?, not-so, and-left, and-right, between-in, between-past}
+use Rattle.masks.proofs.Masks.{bit-past}
 use Rattle.columns.specs.Exchange.{digit, withDigit, LowColumns, Exchanged, Square, Within, Transposed}
-use Rattle.columns.proofs.Shifts.{bit-past}
 use Rattle.columns.proofs.Digits.{with-below, with-mix}
 
 -- ---- the masks, by computing below 32
