@@ -30,7 +30,7 @@ unseen-falls {P} {S} up m low p s = count-less {P = λ v. not (S v)} {S = λ v. 
 pub flipped-down : {G K : ℕ → Bool} {e : ℕ} → Flipped G e K → G e ≡ true → (j : ℕ) → K j ≡ true → G j ≡ true
 flipped-down {G} {K} {e} f here j t = ⊎-elim (λ (q : j ≡ e). rw q here) (λ (n : j ≡ e → ⊥). sym (f .other j n) ∙ t) (same? j e)
 
-flipped-out : {G K : ℕ → Bool} {e : ℕ} → Flipped G e K → G e ≡ true → K e ≡ false
+pub flipped-out : {G K : ℕ → Bool} {e : ℕ} → Flipped G e K → G e ≡ true → K e ≡ false
 flipped-out f here = f .self ∙ ap not here
 
 -- a place that is tried is no longer to be tried
@@ -72,7 +72,7 @@ served-wider {w} {x} up s = record {
   spare = s .spare;
 }
 
-owned-wider : {S R : ℕ → Bool} {w : List ℕ} → ((v : ℕ) → S v ≡ true → R v ≡ true) → (k : ℕ) → Owned S w k → Owned R w k
+pub owned-wider : {S R : ℕ → Bool} {w : List ℕ} → ((v : ℕ) → S v ≡ true → R v ≡ true) → (k : ℕ) → Owned S w k → Owned R w k
 owned-wider up k o = record { low = o .low; seen = up _ (o .seen) }
 
 -- ---- the loop: S are the members tried so far, G the held places that are not tried yet; `others` is of members other than m
@@ -356,10 +356,14 @@ reach-within : (may : ℕ → ℕ → Bool) (from to : ℕ) (F H : ℕ → Bool)
 unfolding within
 reach-within may from to F H v e free held o = both (may v e) (between from to e) (reach-row may F H v e o) (⊎-elim free held (reach-open may F H v e o))
 
+-- what is open to a chain is of the piece
+pub served-within : (may : ℕ → ℕ → Bool) {from to : ℕ} {F H : ℕ → Bool} {w x : List ℕ} {m : ℕ} → Opened w from to F H → Served (reach may F H) w m x → Served (within may from to) w m x
+served-within may {from} {to} {F} {H} h = served-wider (λ v e. reach-within may from to F H v e (λ f. h .free e f .0) (λ f. h .held e f .0))
+
 pub placed : {may : ℕ → ℕ → Bool} {from to : ℕ} {F H P S G : ℕ → Bool} {w x : List ℕ} {m t : ℕ} {found : Bool} → ((v : ℕ) → P v ≡ false) → Opened w from to F H
     → Settled may F H P w m found t S G x → Placed (within may from to) w m found x
 placed {may} {from} {to} {F} {H} {P} {S} {G} {w} {x} {m} new h r = record {
-  served = λ q. served-wider (λ v e. reach-within may from to F H v e (λ f. h .free e f .0) (λ f. h .held e f .0)) (r .gave q .served);
+  served = λ q. served-within may h (r .gave q .served);
   blocked = λ q. let s = r .stuck q in record {
     group = S;
     self = s .self;

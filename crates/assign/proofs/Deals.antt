@@ -105,6 +105,14 @@ module _ {may : ℕ → ℕ → Bool} {first k from to : ℕ} {w : List ℕ} {U 
   pub partly-done : ((m : ℕ) → U m ≡ false) → Dealt may first k from to w
   partly-done none = record { size = p .size; right = p .right; once = λ m f t. p .once m (between-in first (first + k) m f t) (none m) }
 
+  -- a member that holds a place is of the block
+  pub partly-block : (v : ℕ) → v < 255 → 1 ≤ cnt v w → between first (first + k) v ≡ true
+  partly-block = right-block may first k from to w (p .right) (p .size)
+
+  -- the members that wait, as another test
+  pub partly-waits : {R : ℕ → Bool} → ((m : ℕ) → R m ≡ U m) → Partly may first k from to w R
+  partly-waits same = record { size = p .size; right = p .right; once = λ m b r. p .once m b (sym (same m) ∙ r); waits = λ m r. p .waits m (sym (same m) ∙ r) }
+
   -- only what members of the block may take of the piece matters
   pub partly-same : {may' : ℕ → ℕ → Bool} → ((m e : ℕ) → between first (first + k) m ≡ true → between from to e ≡ true → may' m e ≡ may m e) → Partly may' first k from to w U
   partly-same {may'} same = record {
@@ -146,17 +154,14 @@ module _ {may : ℕ → ℕ → Bool} {first k from to : ℕ} {w : List ℕ} {U 
     -- no chain for m: a group of the block is short
     pub partly-short : Blocked (within may from to) w m → Short may first k from to
     partly-short b = blocked-short b (p .size) partly-low (p .waits m left .1) one
-        (λ v. ⊎-elim (λ (q : v ≡ m). rw q (p .waits m left .0)) (λ (q : (v < 32) × (1 ≤ cnt v w)). let z = q .0 in of-block v (omega arith) (q .1)))
+        (λ v. ⊎-elim (λ (q : v ≡ m). rw q (p .waits m left .0)) (λ (q : (v < 32) × (1 ≤ cnt v w)). let z = q .0 in partly-block v (omega arith) (q .1)))
       where
-        of-block : (v : ℕ) → v < 255 → 1 ≤ cnt v w → between first (first + k) v ≡ true
-        of-block = right-block may first k from to w (p .right) (p .size)
-
         one : (v : ℕ) → v < 32 → cnt v w ≤ 1
         one v z = ⊎-elim
             (λ (l : cnt v w < 1). omega arith)
             (λ (l : 1 ≤ cnt v w). ⊎-elim
             (λ (u : U v ≡ true). let n = p .waits v u .1 in omega arith)
-            (λ (u : U v ≡ false). let n = p .once v (of-block v (omega arith) l) u in omega arith)
+            (λ (u : U v ≡ false). let n = p .once v (partly-block v (omega arith) l) u in omega arith)
             (holds? (U v)))
             (below? (cnt v w) 1)
 

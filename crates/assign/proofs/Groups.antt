@@ -85,13 +85,13 @@ within-in : (may : ℕ → ℕ → Bool) (from to v e : ℕ) → may v e ≡ tru
 unfolding within
 within-in may from to v e = both (may v e) (between from to e)
 
-want-inv : (may : ℕ → ℕ → Bool) (group : ℕ → Bool) (e : ℕ) → wanted may group e ≡ true → (v : ℕ) × (group v ≡ true) × (may v e ≡ true)
+pub want-inv : (may : ℕ → ℕ → Bool) (group : ℕ → Bool) (e : ℕ) → wanted may group e ≡ true → (v : ℕ) × (v < 32) × (group v ≡ true) × (may v e ≡ true)
 unfolding wanted
 want-inv may group e h =
     let f = any-found (λ v. group v && may v e) 32 h in
-    (f .0, and-left (group (f .0)) (may (f .0) e) (f .2), and-right (group (f .0)) (may (f .0) e) (f .2))
+    (f .0, f .1, and-left (group (f .0)) (may (f .0) e) (f .2), and-right (group (f .0)) (may (f .0) e) (f .2))
 
-want-in : (may : ℕ → ℕ → Bool) (group : ℕ → Bool) (v e : ℕ) → v < 32 → group v ≡ true → may v e ≡ true → wanted may group e ≡ true
+pub want-in : (may : ℕ → ℕ → Bool) (group : ℕ → Bool) (v e : ℕ) → v < 32 → group v ≡ true → may v e ≡ true → wanted may group e ≡ true
 unfolding wanted
 want-in may group v e l g r = any-in (λ v. group v && may v e) 32 v l (both (group v) (may v e) g r)
 
@@ -104,7 +104,7 @@ blocked-short {may} {first} {k} {from} {to} {w} {m} b size low none once inside 
     let x = places-onto group E 32 w 0 (λ i l h.
     let h' : E i ≡ true = subst (λ (j : ℕ). E j ≡ true) (omega arith) h in
     let u = want-inv may group i (and-right (between from to i) (wanted may group i) h') in
-    let o = b .closed (u .0) (u .1) i (omega arith) (within-in may from to (u .0) i (u .2) (and-left (between from to i) (wanted may group i) h')) in
+    let o = b .closed (u .0) (u .2) i (omega arith) (within-in may from to (u .0) i (u .3) (and-left (between from to i) (wanted may group i) h')) in
     (o .low, o .seen)) in
     let y = places-count group 32 w m low (b .self) none (λ v l s. once v l) in
     let z = count-zero E in

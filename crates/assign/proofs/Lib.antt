@@ -10,3 +10,4 @@ pub mod Claims
 pub mod Unique
 pub mod Examples
 pub mod Quicks
+pub mod Wides

@@ -1,5 +1,5 @@
--- The contracts of the public functions allow one result each. Stated of the contracts themselves, as the check reads them. Assumes nothing.
-use mathlib.Core.Path.{_≡_, sym, ap₂, _∙_}
+-- The contract of `first_assignment` allows one result. Stated of the contract itself, as the check reads it. Assumes nothing.
+use mathlib.Core.Path.{_≡_, ap₂}
 use mathlib.Core.Bool.{Bool}
 use mathlib.Core.List.{List}
 use Prim.Native.Nat.{ℕ}

@@ -1,8 +1,9 @@
 // The first assignment of a piece by a block, in byte order. Members and elements are numbers below 32, and bit m of `rows[e]` says
 // that member m may take element e. Chains start at members, so the search goes by columns, the rows turned.
 ghost use Prim.Native.Nat.{_+_, _≤_};
-ghost use Rattle.masks.specs.Rows.{may};
+ghost use Rattle.masks.specs.Rows.{bit, may};
 ghost use Rattle.assign.specs.Assignment.{Answer};
+ghost use Rattle.assign.specs.Widest.{Widest};
 use columns::turned;
 
 mod visit; // going through a mask, bit by bit
@@ -10,6 +11,7 @@ mod chain; // one member more, by an alternating chain
 mod quick; // the least free member for each element
 mod saturate; // an assignment, if there is one
 mod refine; // from an assignment to the first one
+mod widest; // as many members as can be
 
 // The byte of an element that no member has.
 const SPARE: u8 = 255;
@@ -20,6 +22,12 @@ pub struct Found {
     pub w: [u8; 32],
 }
 
+// The byte of each element, and the members that have none.
+pub struct Served {
+    pub w: [u8; 32],
+    pub waiting: u32,
+}
+
 // The first assignment of the elements from .. to - 1 by the members first .. first + k - 1.
 pub fn first_assignment(rows: &[u32; 32], first: u8, k: u8, from: u8, to: u8) -> Found
     requires { ⌜ (first + k ≤ 32) × (from ≤ to) × (to ≤ 32) ⌝ }
@@ -27,18 +35,29 @@ pub fn first_assignment(rows: &[u32; 32], first: u8, k: u8, from: u8, to: u8) ->
 {
     let q = quick::quick(rows, first, k, from, to);
     let begun = q.w;
-    if q.left == 0 {
+    if q.waiting == 0 {
         return Found {
             found: true,
             w: begun,
         };
     }
     let columns = turned(rows, first, k, from, to);
-    let s = saturate::saturate(&columns, from, to, begun, q.left);
+    let s = saturate::saturate(&columns, from, to, begun, q.waiting);
     if !s.found {
         return s;
     }
     let w = s.w;
     let x = refine::refine(&columns, from, to, w);
     Found { found: true, w: x }
+}
+
+// As many of the members below k as can be, each with an element below n of its own; the others wait.
+pub fn widest_assignment(rows: &[u32; 32], k: u8, n: u8) -> Served
+    requires { ⌜ (k ≤ 32) × (n ≤ 32) ⌝ }
+    ensures { λ r. ⌜ Widest (may (now (rows .entry))) 0 k 0 n (r .w) (bit (r .waiting)) ⌝ }
+{
+    let q = quick::quick(rows, 0, k, 0, n);
+    let columns = turned(rows, 0, k, 0, n);
+    let begun = q.w;
+    widest::serve_all(&columns, 0, n, begun, q.waiting)
 }

@@ -3,20 +3,15 @@ ghost use Prim.Native.Nat.{_+_, _≤_};
 ghost use Rattle.masks.specs.Rows.{bit, may};
 ghost use Rattle.assign.specs.Quick.{Greedy};
 use crate::SPARE;
+use crate::Served;
 use crate::visit::flip;
 use crate::visit::lowest;
 use masks::span;
 
-// What `quick` gives: the byte of each element, and the members that found none.
-pub struct Begun {
-    pub w: [u8; 32],
-    pub left: u32,
-}
-
 // Each of the elements from .. to - 1 takes the least member of the block that is left and may take it.
-pub fn quick(rows: &[u32; 32], first: u8, k: u8, from: u8, to: u8) -> Begun
+pub fn quick(rows: &[u32; 32], first: u8, k: u8, from: u8, to: u8) -> Served
     requires { ⌜ (first + k ≤ 32) × (from ≤ to) × (to ≤ 32) ⌝ }
-    ensures { λ r. ⌜ Greedy (may (now (rows .entry))) first k from to (r .w) (bit (r .left)) to ⌝ }
+    ensures { λ r. ⌜ Greedy (may (now (rows .entry))) first k from to (r .w) (bit (r .waiting)) to ⌝ }
 {
     let mut w = [SPARE; 32];
     let mut left = span(first, first + k);
@@ -30,5 +25,5 @@ pub fn quick(rows: &[u32; 32], first: u8, k: u8, from: u8, to: u8) -> Begun
         }
         e += 1;
     }
-    Begun { w, left }
+    Served { w, waiting: left }
 }

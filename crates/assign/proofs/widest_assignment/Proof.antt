@@ -1,0 +1,31 @@
+-- `widest_assignment` meets its contract: from where `quick` leaves off, by the columns. What the columns say of the block and the piece is what the rows say.
+-- Assumes nothing.
+use native.Mathlib.Omega.{arith}
+use borrow.Author.Needs.{needs}
+use Rattle.masks.proofs.Lemmas.{between-to}
+use Rattle.assign.proofs.Deals.{partly-same}
+use Rattle.assign.proofs.Assignments.{turned-same}
+use Rattle.assign.proofs.Wides.{widest-same}
+use Rattle.assign.proofs.widest_assignment.Statement.{statement}
+use Rattle.assign.proofs.widest_assignment.Tie as tie
+
+quick-requires : tie.Need-quick-requires
+quick-requires c κs = search needs
+
+turned-requires : tie.Need-turned-requires
+turned-requires c κs = search needs
+
+serve-all-requires : tie.Need-serve-all-requires
+serve-all-requires c κs =
+    let called = c .before .before .before in
+    (omega arith, omega (arith, called .before .pre .1), λ v u. let p = called .quick .ensures .partly .waits v u in (let t = between-to 0 _ v (p .0) in omega (arith, called .before .pre .0), p .1))
+
+returns : tie.Need-returns
+returns c =
+    let turning = c .before .before .before in
+    let called = turning .before in
+    let same = turned-same (turning .turned .ensures) in
+    widest-same same (c .serve-all .ensures _ _ (omega (arith, called .before .pre .0)) (partly-same (called .quick .ensures .partly) same))
+
+pub widest-assignment-spec : {M : Type 1} → statement M
+widest-assignment-spec = tie.close (tie.spec quick-requires turned-requires serve-all-requires returns)
