@@ -1,0 +1,26 @@
+-- `exchanged_reason` meets its contract: the columns, read as rows, are the same pairs with members and elements exchanged. Assumes nothing.
+use mathlib.Core.Path.{sym, _∙_}
+use native.Mathlib.Omega.{arith}
+use borrow.Author.Needs.{needs}
+use Rattle.masks.proofs.Lemmas.{between-in}
+use Rattle.masks.proofs.Masks.{row-may, row-picks}
+use Rattle.assign.proofs.Assignments.{turned-same}
+use Rattle.reasons.proofs.Groups.{given-agree}
+use Rattle.reasons.proofs.exchanged_reason.Statement.{statement}
+use Rattle.reasons.proofs.exchanged_reason.Tie as tie
+
+turned-requires : tie.Need-turned-requires
+turned-requires c κs = search needs
+
+reason-requires : tie.Need-reason-requires
+reason-requires c κs = search needs
+
+returns : tie.Need-returns
+returns c =
+    let turning = c .before .before in
+    let p = turning .before .pre in
+    let cols = turning .turned .result in
+    given-agree (p .1) (λ e m l h. sym (row-may cols e m) ∙ row-picks cols m e ∙ turned-same (turning .turned .ensures) m e (between-in 0 _ m (omega arith) (omega arith)) (between-in 0 _ e (omega arith) l)) (c .reason .ensures)
+
+pub exchanged-reason-spec : {M : Type 1} → statement M
+exchanged-reason-spec = tie.close (tie.spec turned-requires reason-requires returns)
