@@ -73,7 +73,7 @@ no-member [] m x l = refl
 no-member (e ∷ es) zero x l = absurd (omega arith)
 no-member (e ∷ es) (suc m) x l = no-member es m x (omega arith)
 
-agree-from : (es : List (Elem Leaf)) (related : ℕ → ℕ → Bool) (e : ℕ) (xs : List ℤ) → ((m i : ℕ) → i < length xs → related m (e + i) ≡ memberHits matches es m (getD xs i (pos 0))) → Agree matches es e xs related
+pub agree-from : (es : List (Elem Leaf)) (related : ℕ → ℕ → Bool) (e : ℕ) (xs : List ℤ) → ((m i : ℕ) → i < length xs → related m (e + i) ≡ memberHits matches es m (getD xs i (pos 0))) → Agree matches es e xs related
 unfolding Agree
 agree-from es related e [] h = tt
 agree-from es related e (x ∷ xs) h =
@@ -262,7 +262,7 @@ fill-body (superset es) related n P e h = absurd (omega arith)
 fill-body (subset es) related n P e h = h
 
 module _ (t : List ℕ) (p : Plan) (xs : List ℤ) (short : length xs ≤ 32) (met : Bool) (says : met ≡ (leb (p .low) (length xs) && leb (length xs) (p .high))) where
-  length-by : (a : Length) (b : Body Leaf) → Planned t a b p → met ≡ lengthMet a (length xs)
+  pub length-by : (a : Length) (b : Body Leaf) → Planned t a b p → met ≡ lengthMet a (length xs)
   length-by a b pl = says ∙ rw (pl .lower, pl .upper) (length-is a (length xs) short)
 
   pub unmet : met ≡ false → FirstBy t p xs false (replicate 32 255)

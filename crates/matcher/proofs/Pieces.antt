@@ -94,7 +94,7 @@ module _ (may : ℕ → ℕ → Bool) (m k : ℕ) where
   join-byte x e a b = ⊎-elim (λ (s : x ≡ 255). or-left (eqb x 255) (between m (m + k) x && may x e) (eq-eqb x 255 s)) (λ s. ⊎-elim (λ (r : x ≡ 255). or-left (eqb x 255) (between m (m + k) x && may x e) (eq-eqb x 255 r))
       (λ (r : may x e ≡ true). or-right (eqb x 255) (between m (m + k) x && may x e) (both (between m (m + k) x) (may x e) (between-in m (m + k) x (s .0) (s .1)) r)) b) a
 
-  right-split : (e : ℕ) (p : List ℕ) → allRight may m k e p ≡ true → Within m k p × MayAll may e p
+  pub right-split : (e : ℕ) (p : List ℕ) → allRight may m k e p ≡ true → Within m k p × MayAll may e p
   unfolding allRight Within MayAll
   right-split e [] h = (tt, tt)
   right-split e (x ∷ p) h =

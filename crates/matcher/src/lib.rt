@@ -12,6 +12,7 @@ use cuts::first_filling;
 use passes::cut_passes;
 use passes::filling_passes;
 use plan::Plan;
+use plan::SUBSET;
 use plan::plan_of;
 use plan::rows_of;
 
@@ -29,10 +30,8 @@ const OTHER_LENGTH: u8 = 13;
 
 const SPARE: u8 = 255;
 
-const SUBSET: u8 = 0x13;
-
 // Whether a list of n elements meets the length attribute.
-fn length_met(low: u8, high: u8, n: usize) -> bool
+pub fn length_met(low: u8, high: u8, n: usize) -> bool
     ensures { λ r. ⌜ r ≡ (leb low n && leb n high) ⌝ }
 {
     (low as usize <= n) & (n <= high as usize)

@@ -16,6 +16,11 @@ use template::whole::read_template;
 use words::int_at;
 use words::within;
 
+// The kinds of a body that are told apart by their plan.
+pub const SUPERSET: u8 = 0x12;
+
+pub const SUBSET: u8 = 0x13;
+
 // The refusal's number or 0; the least and greatest length of the list; the body's kind; the blocks, the first `count`; the places of the
 // members.
 pub struct Plan {

@@ -1,0 +1,141 @@
+-- What obeys a superset or a subset, and groups. Assumes nothing.
+-- pairs-agree: `pairs` says of each member which elements it matches.
+-- superset-assigns, assigns-superset: what obeys a superset are the assignments of the whole list by its members.
+-- subset-chosen, chosen-subset: what obeys a subset gives each element a member of its own.
+-- short-unmet: where a group is short nothing obeys. chosen-met: where there are choices, something does.
+use mathlib.Core.Path.{_≡_, sym, ap, _∙_, subst}
+use mathlib.Core.Bool.{Bool, true, _&&_, cond}
+use mathlib.Core.Logic.{⊎-elim}
+use mathlib.Core.List.{List, _++_, append-nil}
+use Prim.Native.Nat.{ℕ, _+_, _≤_, _<_}
+use native.Mathlib.Nat.{zero-add}
+use native.Mathlib.Omega.{arith}
+use lib.ListN.{length, getD}
+use lib.IntN.{ℤ, pos}
+use borrow.Author.Tests.{lt-ltb}
+use Rattle.words.proofs.Cases.{by-test}
+use Rattle.masks.proofs.Lemmas.{same?, below?, between-in, and-left}
+use Rattle.assign.specs.Assignment.{Assigns, Short, allRight, allOnce, assigns}
+use Rattle.assign.proofs.Assignments.{assigns-test}
+use Rattle.assign.proofs.Counting.{cnt-two}
+use Rattle.assign.proofs.Groups.{short-never}
+use Rattle.cuts.specs.Cut.{Cuts, Fills}
+use Rattle.template.specs.Element.{Elem}
+use Rattle.template.specs.Leaf.{Leaf}
+use Rattle.template.specs.Template.{Body, recordOf, setOf, superset, subset, Length, Template, template, membersOf}
+use Rattle.template.specs.Blocks.{blocksOf}
+use Rattle.element.specs.Matches.{matches}
+use Rattle.plan.specs.Members.{memberHits}
+use Rattle.matcher.specs.Obeys.{lengthMet, obeys}
+use Rattle.matcher.specs.Search.{membersCount}
+use Rattle.matcher.proofs.Pieces.{right-split, length-once}
+use Rattle.matcher.proofs.Bodies.{Agree, ByBlocks, whole-cut, obeys-says, obeys-test}
+use Rattle.matcher.proofs.Entries.{agree-from}
+use Rattle.reasons.specs.Reason.{ShortGroup, Chosen}
+use Rattle.reasons.proofs.Choices.{listed, listed-size, listed-at, listed-once, chosen-assigns, chosen-never}
+use Rattle.why.specs.Why.{pairs, Asked, ofNothing, ofGroups, askedBy, askedOf}
+use Rattle.why.specs.Claims.{Explained, aSuperset, aSubset}
+
+pub pairs-agree : (es : List (Elem Leaf)) (xs : List ℤ) → Agree matches es 0 xs (pairs es xs)
+unfolding pairs
+pairs-agree es xs = agree-from es (pairs es xs) 0 xs (λ m i l. rw (zero-add i) (ap (λ b. b && memberHits matches es m (getD xs i (pos 0))) (lt-ltb i (length xs) l)))
+
+module _ (es : List (Elem Leaf)) (ok : ℕ → ℕ → Bool) (n : ℕ) (few : length es ≤ 32) (short : n ≤ 32) (w : List ℕ) where
+  superset-assigns : ByBlocks (superset es) ok n w → Assigns ok 0 (length es) 0 n w
+  unfolding ByBlocks blocksOf Cuts
+  superset-assigns c =
+      let j = c .parts in
+      let same : w ≡ j .left = j .whole ∙ ap (λ v. j .left ++ v) (j .onRight .1) ∙ append-nil (j .left) in
+      subst (λ (v : List ℕ). Assigns ok 0 (length es) 0 n v) (sym same) (subst (λ (m : ℕ). Assigns ok 0 (length es) 0 m (j .left)) (j .onRight .0) (j .onLeft .assigned))
+
+  assigns-superset : Assigns ok 0 (length es) 0 n w → ByBlocks (superset es) ok n w
+  unfolding ByBlocks blocksOf assigns
+  assigns-superset h =
+      let r = right-split ok 0 (length es) 0 w (and-left (allRight ok 0 (length es) 0 w) (allOnce 0 (length es) w) (assigns-test h)) in
+      let z = length-once 0 (length es) w (omega arith) (r .0) (h .once) in
+      let size = h .size in
+      whole-cut ok 0 (length es) 0 255 n w (record { within = r .0; once = h .once; enough = omega arith; few = omega arith }) (r .1) (omega arith)
+
+  subset-chosen : Fills ok (length es) n w → Chosen (λ e m. ok m e) n (length es) (λ e. getD w e 0)
+  subset-chosen f = record {
+    low = f .member;
+    right = f .right;
+    apart = λ i j a b q. ⊎-elim
+        (λ (l : i < j). absurd (twice i j l b q))
+        (λ (l : j ≤ i). ⊎-elim (λ (s : i ≡ j). s) (λ (s : i ≡ j → ⊥). absurd (twice j i (omega arith) a (sym q))) (same? i j))
+        (below? i j);
+  }
+    where
+      twice : (i j : ℕ) → i < j → j < n → getD w i 0 ≡ getD w j 0 → ⊥
+      twice i j l b q = let size = f .size in let two = cnt-two w i j l (omega arith) q in let one = f .once (getD w j 0) (f .member j b) in omega arith
+
+  chosen-subset : (f : ℕ → ℕ) → Chosen (λ e m. ok m e) n (length es) f → Fills ok (length es) n (listed f n)
+  chosen-subset f c = record {
+    size = listed-size f n;
+    member = λ e l. subst (λ (y : ℕ). y < length es) (sym (listed-at f n e l)) (c .low e l);
+    right = λ e l. subst (λ (y : ℕ). ok y e ≡ true) (sym (listed-at f n e l)) (c .right e l);
+    once = λ m l. listed-once f n m (c .apart);
+  }
+
+module _ (a : Length) (es : List (Elem Leaf)) (xs : List ℤ) (few : length es ≤ 32) (short : length xs ≤ 32) where
+  -- ---- a superset: its members on the elements
+  superset-unmet : (G : ℕ → Bool) → ShortGroup (pairs es xs) (length es) (length xs) G → (w : List ℕ) → obeys (template a (superset es)) xs w ≡ true → ⊥
+  unfolding membersOf
+  superset-unmet G s w o =
+      let c = obeys-says matches a (superset es) (pairs es xs) xs (pairs-agree es xs) few short w o .0 in
+      let t : Short (pairs es xs) 0 (length es) 0 (length xs) = record { group = G; inside = λ v g. between-in 0 (0 + length es) v (omega arith) (let l = s .inside v g in omega arith); few = s .few } in
+      short-never t (omega arith) (omega arith) short w (superset-assigns es (pairs es xs) (length xs) few short w c)
+
+  superset-met : lengthMet a (length xs) ≡ true → (f : ℕ → ℕ) → Chosen (pairs es xs) (length es) (length xs) f → (w : List ℕ) × (obeys (template a (superset es)) xs w ≡ true)
+  unfolding membersOf
+  superset-met m f c =
+      let w = chosen-assigns (pairs es xs) (length es) (length xs) f few c in
+      (w .0, obeys-test matches a (superset es) (pairs es xs) xs (pairs-agree es xs) few short (w .0) (assigns-superset es (pairs es xs) (length xs) few short (w .0) (w .1)) m)
+
+  -- ---- a subset: the elements on its members
+  subset-unmet : (G : ℕ → Bool) → ShortGroup (λ e m. pairs es xs m e) (length xs) (length es) G → (w : List ℕ) → obeys (template a (subset es)) xs w ≡ true → ⊥
+  unfolding membersOf ByBlocks
+  subset-unmet G s w o =
+      let f = obeys-says matches a (subset es) (pairs es xs) xs (pairs-agree es xs) few short w o .0 in
+      chosen-never short few (subset-chosen es (pairs es xs) (length xs) few short w f) s
+
+  subset-met : lengthMet a (length xs) ≡ true → (f : ℕ → ℕ) → Chosen (λ e m. pairs es xs m e) (length xs) (length es) f → (w : List ℕ) × (obeys (template a (subset es)) xs w ≡ true)
+  unfolding membersOf ByBlocks
+  subset-met m f c =
+      let w = listed f (length xs) in
+      (w, obeys-test matches a (subset es) (pairs es xs) xs (pairs-agree es xs) few short w (chosen-subset es (pairs es xs) (length xs) few short w f c) m)
+
+-- ---- what is asked
+pub record Question (s : Template Leaf) (xs : List ℤ) (ok : ℕ → ℕ → Bool) (k n : ℕ) : Type 0 where
+  pub few : k ≤ 32
+  pub short : n ≤ 32
+  pub explained : Explained s xs
+  pub unmet : (G : ℕ → Bool) → ShortGroup ok k n G → (w : List ℕ) → obeys s xs w ≡ true → ⊥
+  pub met : (f : ℕ → ℕ) → Chosen ok k n f → (w : List ℕ) × (obeys s xs w ≡ true)
+
+unfoldable Sensible : Template Leaf → List ℤ → Asked → Type 0
+Sensible s xs ofNothing = Unit {0}
+Sensible s xs (ofGroups ok k n) = Question s xs ok k n
+
+body-sensible : (a : Length) (b : Body Leaf) (xs : List ℤ) → length (membersOf b) ≤ 32 → length xs ≤ 32 → lengthMet a (length xs) ≡ true → Sensible (template a b) xs (askedBy b xs)
+unfolding Sensible askedBy membersOf
+body-sensible a (recordOf is) xs few short m = tt
+body-sensible a (setOf g) xs few short m = tt
+body-sensible a (superset es) xs few short m = record { few = omega arith; short = omega arith; explained = aSuperset a es xs m; unmet = superset-unmet a es xs few short; met = superset-met a es xs few short m }
+body-sensible a (subset es) xs few short m = record { few = omega arith; short = omega arith; explained = aSubset a es xs m; unmet = subset-unmet a es xs few short; met = subset-met a es xs few short m }
+
+asked-sensible : (s : Template Leaf) (xs : List ℤ) → membersCount s ≤ 32 → length xs ≤ 32 → Sensible s xs (askedOf s xs)
+unfolding Sensible askedOf membersCount
+asked-sensible (template a b) xs few short = by-test (lengthMet a (length xs))
+    (λ m. subst (λ (t : Bool). Sensible (template a b) xs (cond t (askedBy b xs) ofNothing)) (sym m) (body-sensible a b xs few short m))
+    (λ m. subst (λ (t : Bool). Sensible (template a b) xs (cond t (askedBy b xs) ofNothing)) (sym m) tt)
+
+pub asked-question : {s : Template Leaf} {xs : List ℤ} {ok : ℕ → ℕ → Bool} {k n : ℕ} → membersCount s ≤ 32 → length xs ≤ 32 → askedOf s xs ≡ ofGroups ok k n → Question s xs ok k n
+unfolding Sensible
+asked-question {s} {xs} few short q = subst (Sensible s xs) q (asked-sensible s xs few short)
+
+-- something is asked of what is to be explained
+pub explained-asked : {s : Template Leaf} {xs : List ℤ} → Explained s xs → (ok : ℕ → ℕ → Bool) × (k : ℕ) × (n : ℕ) × (askedOf s xs ≡ ofGroups ok k n)
+unfolding askedOf askedBy
+explained-asked (aSuperset a es xs m) = (pairs es xs, length es, length xs, ap (λ (t : Bool). cond t (ofGroups (pairs es xs) (length es) (length xs)) ofNothing) m)
+explained-asked (aSubset a es xs m) = ((λ e m. pairs es xs m e), length xs, length es, ap (λ (t : Bool). cond t (ofGroups (λ e m. pairs es xs m e) (length xs) (length es)) ofNothing) m)

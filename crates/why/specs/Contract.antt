@@ -1,0 +1,23 @@
+-- What the private functions say.
+-- Grouped q g       <-> g is the mask of the reason, 0 where no group is short or nothing is asked
+-- GroupFor t xs g   <-> g is that mask for the template bytes t and the list xs, where no row of the table holds; where one does, it is 0
+-- Assumes nothing: these are definitions.
+use mathlib.Core.Path.{_≡_}
+use mathlib.Core.List.{List, []}
+use Prim.Native.Nat.{ℕ}
+use lib.IntN.{ℤ}
+use Rattle.template.specs.Leaf.{Leaf, leafHead}
+use Rattle.template.specs.Template.{Template}
+use Rattle.template.specs.Reading.{got}
+use Rattle.template.specs.Whole.{readTemplate}
+use Rattle.matcher.specs.Claims.{Taken}
+use Rattle.reasons.specs.Reason.{Given}
+use Rattle.why.specs.Why.{Asked, ofNothing, ofGroups, askedOf}
+
+unfoldable pub Grouped : Asked → ℕ → Type 0
+Grouped ofNothing g = g ≡ 0
+Grouped (ofGroups ok k n) g = Given ok k n g
+
+pub record GroupFor (t : List ℕ) (xs : List ℤ) (g : ℕ) : Type 0 where
+  pub accepted : (g ≡ 0 → ⊥) → (s : Template Leaf) × Taken t xs × (readTemplate leafHead t ≡ got s [])
+  pub group : Taken t xs → (s : Template Leaf) → readTemplate leafHead t ≡ got s [] → Grouped (askedOf s xs) g

@@ -1,0 +1,77 @@
+// Why a list does not match: the matcher's number, and for a superset or a subset the group that is the reason.
+ghost use mathlib.Core.Path.{_≡_};
+ghost use mathlib.Core.Bool.{_||_};
+ghost use lib.Dec.{eqb};
+ghost use Rattle.why.specs.Why.{WhyOf};
+ghost use Rattle.why.specs.Contract.{GroupFor};
+use matcher::length_met;
+use matcher::match_list;
+use plan::SUBSET;
+use plan::SUPERSET;
+use plan::plan_of;
+use plan::rows_of;
+use reasons::exchanged_reason;
+use reasons::reason;
+
+const NO_MATCH: u8 = 1;
+
+// The matcher's number; and the group as a mask, of a superset bit m for member m, of a subset bit e for element e, 0 where none is given.
+pub struct Why {
+    pub number: u8,
+    pub group: u32,
+}
+
+// Whether a body of this kind is explained by a group.
+fn is_explained(kind: u8) -> bool
+    ensures { λ r. ⌜ r ≡ (eqb kind 0x12 || eqb kind 0x13) ⌝ }
+{
+    (kind == SUPERSET) | (kind == SUBSET)
+}
+
+// The group, 0 where no group is short and where none is asked for.
+fn group_of(template: &[u8], list: &[i32]) -> u32
+    ensures { λ r. ⌜ GroupFor (now (template .entry)) (now (list .entry)) r ⌝ }
+{
+    if 4096 < template.len() {
+        return 0;
+    }
+    if 32 < list.len() {
+        return 0;
+    }
+    let p = plan_of(template);
+    if p.number != 0 {
+        return 0;
+    }
+    if !length_met(p.low, p.high, list.len()) {
+        return 0;
+    }
+    let kind = p.kind;
+    if !is_explained(kind) {
+        return 0;
+    }
+    let k = p.members as u8;
+    let n = list.len() as u8;
+    let places = p.places;
+    let rows = rows_of(template, places, p.members, list);
+    if kind == SUPERSET {
+        return reason(&rows, k, n);
+    }
+    exchanged_reason(&rows, k, n)
+}
+
+// The matcher's number for this list, and why it does not match. A group shows that nothing obeys, so it is looked for first: the search is
+// for lists without one.
+pub fn why_not(template: &[u8], list: &[i32]) -> Why
+    ensures { λ r. ⌜ WhyOf (now (template .entry)) (now (list .entry)) (r .number) (r .group) ⌝ }
+{
+    let group = group_of(template, list);
+    if group != 0 {
+        return Why {
+            number: NO_MATCH,
+            group,
+        };
+    }
+    let mut room = [0u8; 32];
+    let number = match_list(template, list, &mut room);
+    Why { number, group }
+}
