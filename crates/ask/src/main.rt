@@ -1,4 +1,4 @@
-// Lets anyone try the matcher, the judge and the normaliser on bytes.
+// Lets anyone try the matcher, the judge, the normaliser and the reason for no match on bytes.
 //
 // Standard input is a run of requests, and each gets one line. Every u16 has its low byte first.
 //   1, u16 t, t template bytes, u16 n, n integers of four bytes, u16 r: a match. A room of r bytes,
@@ -6,6 +6,8 @@
 //   2, u16 t, t template bytes, u16 n, n integers of four bytes, u16 w, w witness bytes: a judgement.
 //     The line is `NUMBER`.
 //   3, u16 t, t template bytes, u16 r: a normal form. The line is `NUMBER LENGTH ROOM`.
+//   7, u16 t, t template bytes, u16 n, n integers of four bytes: why not. The line is `NUMBER GROUP`, the mask in eight
+//     hexadecimal digits, `-` where no group is given.
 // ROOM is the whole room afterwards in hexadecimal, `-` where r is 0. A request over its bounds (t 5,000,
 // n 64, r and w 1,024), another first byte, and a request that ends early get the line `bad`, and the run ends.
 mod request;

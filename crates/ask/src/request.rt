@@ -3,6 +3,7 @@ use crate::text;
 use matcher::judge;
 use matcher::match_list;
 use normal::normalise;
+use why::why_not;
 use words::int_at;
 ghost use Prim.Native.Nat.{_≤_};
 ghost use mathlib.Core.Path.{_≡_};
@@ -14,6 +15,8 @@ const MATCH: u8 = 1;
 const JUDGE: u8 = 2;
 
 const NORMALISE: u8 = 3;
+
+const WHY_NOT: u8 = 7;
 
 // The bounds of the counts.
 const TEMPLATE_MOST: usize = 5000;
@@ -71,8 +74,9 @@ fn count_at(s: &[u8], at: usize) -> usize {
     join(s[at], s[at + 1])
 }
 
-fn counts_with_list(s: &[u8]) -> Counts
-    ensures { λ r. ⌜ (r .template ≤ 5000) × (r .list ≤ 64) × (r .last ≤ 1024) ⌝ }
+// Of a request that ends with its list.
+fn counts_of_list(s: &[u8]) -> Counts
+    ensures { λ r. ⌜ (r .template ≤ 5000) × (r .list ≤ 64) ⌝ }
 {
     let template = count_at(s, 1);
     if TEMPLATE_MOST < template {
@@ -82,14 +86,30 @@ fn counts_with_list(s: &[u8]) -> Counts
     if LIST_MOST < list {
         return BAD_COUNTS;
     }
-    let last = count_at(s, 5 + template + 4 * list);
+    Counts {
+        is_good: true,
+        template,
+        list,
+        last: 0,
+    }
+}
+
+// Of a request with a room or a witness after its list.
+fn counts_with_list(s: &[u8]) -> Counts
+    ensures { λ r. ⌜ (r .template ≤ 5000) × (r .list ≤ 64) × (r .last ≤ 1024) ⌝ }
+{
+    let counts = counts_of_list(s);
+    if !counts.is_good {
+        return BAD_COUNTS;
+    }
+    let last = count_at(s, 5 + counts.template + 4 * counts.list);
     if ROOM_MOST < last {
         return BAD_COUNTS;
     }
     Counts {
         is_good: true,
-        template,
-        list,
+        template: counts.template,
+        list: counts.list,
         last,
     }
 }
@@ -159,6 +179,28 @@ fn put_normal_form(out: &mut [u8], at: usize, template: &[u8], room: &mut [u8]) 
     put_room(out, behind_length, room)
 }
 
+// Eight digits of the mask, `-` where no group is given.
+fn put_group(out: &mut [u8], at: usize, group: u32) -> usize {
+    if group == 0 {
+        return text::put(out, at, b'-');
+    }
+    let bytes = [
+        (group / 16777216) as u8,
+        (group / 65536 % 256) as u8,
+        (group / 256 % 256) as u8,
+        (group % 256) as u8,
+    ];
+    text::put_hex(out, at, &bytes)
+}
+
+fn put_reason(out: &mut [u8], at: usize, template: &[u8], list: &[i32]) -> usize {
+    let why = why_not(template, list);
+    let behind_number = text::put_number(out, at, why.number as u64);
+    let behind_space = text::put(out, behind_number, b' ');
+    let behind_group = put_group(out, behind_space, why.group);
+    text::put(out, behind_group, b'\n')
+}
+
 // In the answers below the test of the length says that all parts lie within `s`.
 fn answer_match(s: &[u8], out: &mut [u8], at: usize) -> Reply {
     let counts = counts_with_list(s);
@@ -221,6 +263,23 @@ fn answer_normalise(s: &[u8], out: &mut [u8], at: usize) -> Reply {
     Reply { taken, filled }
 }
 
+fn answer_why_not(s: &[u8], out: &mut [u8], at: usize) -> Reply {
+    let counts = counts_of_list(s);
+    let template_end = 3 + counts.template;
+    let list_at = template_end + 2;
+    let taken = list_at + 4 * counts.list;
+    if s.len() < taken {
+        return bad(out, at);
+    }
+    if !counts.is_good {
+        return bad(out, at);
+    }
+    let n = counts.list;
+    let list = integers(&s[list_at..taken]);
+    let filled = put_reason(out, at, &s[3..template_end], &list[..n]);
+    Reply { taken, filled }
+}
+
 // Answers the request that begins `s`.
 pub fn answer(s: &[u8], out: &mut [u8], at: usize) -> Reply {
     if s.len() == 0 {
@@ -235,6 +294,9 @@ pub fn answer(s: &[u8], out: &mut [u8], at: usize) -> Reply {
     }
     if kind == NORMALISE {
         return answer_normalise(s, out, at);
+    }
+    if kind == WHY_NOT {
+        return answer_why_not(s, out, at);
     }
     bad(out, at)
 }
