@@ -1,4 +1,4 @@
--- Each entry point's promise allows one result only, every byte of the room included, stated of the contract itself. Assumes nothing.
+-- Each public function's promise allows one result only, every byte of the room included, stated of the contract itself. Assumes nothing.
 use mathlib.Core.Path.{_≡_, sym, _∙_}
 use mathlib.Core.List.{List}
 use Prim.Native.Nat.{ℕ}
@@ -6,6 +6,8 @@ use borrow.Fn.Kinds.{Dens, resT, endedOf}
 use contract.Lifetimes.{Lfts}
 use denote.Triple.Clauses.{AtExit}
 use Rattle.matcher.specs.Answer.{Given, given}
+use Rattle.matcher.proofs.length_met.Reads as length-met
+use Rattle.matcher.proofs.length_met.Kinds as length-met-kinds
 use Rattle.matcher.proofs.match_list.Reads as match-list
 use Rattle.matcher.proofs.match_list.Kinds as match-list-kinds
 use Rattle.matcher.proofs.judge.Reads as judge
@@ -21,3 +23,7 @@ match-list-unique κs a r r′ s s′ p q = one-given _ r r′ _ _ p q
 pub judge-unique : (κs : Lfts 3) (a : Dens κs judge-kinds.ps) (r r′ : resT judge-kinds.r κs .Denot) (s s′ : AtExit (endedOf 3 judge-kinds.ps judge-kinds.r) κs)
     → judge.Post κs a r s → judge.Post κs a r′ s′ → r ≡ r′
 judge-unique κs a r r′ s s′ p q = p ∙ sym q
+
+pub length-met-unique : (κs : Lfts 0) (a : Dens κs length-met-kinds.ps) (r r′ : resT length-met-kinds.r κs .Denot) (s s′ : AtExit (endedOf 0 length-met-kinds.ps length-met-kinds.r) κs)
+    → length-met.Post κs a r s → length-met.Post κs a r′ s′ → r ≡ r′
+length-met-unique κs a r r′ s s′ p q = p ∙ sym q

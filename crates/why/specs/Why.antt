@@ -2,8 +2,9 @@
 -- pairs es xs m e   == member m of es matches element e of xs
 -- Asked             == of what a group is given where the list does not match: of nothing, or of k members and n elements, `ok v e` saying that member v
 --                      matches element e
--- askedOf s xs      == what is asked of the template s and the list xs: of a superset the members; of a subset the same "with elements and members
---                      exchanged"; of nothing where "any length attribute" is not met, and "in every other case"
+-- askedBy b xs      == what is asked of a list that meets the length attribute: of a superset the members; of a subset the same "with elements and members
+--                      exchanged"; "in every other case" nothing
+-- askedOf s xs      == what is asked of the template s and the list xs: of one that does not meet "any length attribute" nothing
 -- GroupOf q r g    <-> with the matcher's number r, g is the mask of the group that is given, 0 where none is
 -- GroupRead o xs r g <-> the same for a template that was read as o
 -- numberOf a        == the number of an answer of the matcher
