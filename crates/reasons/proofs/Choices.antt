@@ -3,7 +3,7 @@
 -- listed f n == the list of f 0 .. f (n - 1); listed-size, listed-at: its length and its places. cnt-once: a number that stands at one place at most.
 -- listed-once: where f gives no number twice, no number stands twice in the list.
 -- owner f k e == the member below k that chose e, or 255; owner-is, owner-own, owner-inv: it is that.
--- chosen-assigns: the list of the owners is an assignment. chosen-never: where there are such choices, no group is short.
+-- chosen-assigns: the list of the owners is an assignment. group-short: a short group, as the search says it. chosen-never: where there are such choices, no group is short.
 use mathlib.Core.Path.{_≡_, refl, sym, ap, _∙_, subst}
 use mathlib.Core.Logic.{_⊎_, inl, inr, ⊎-elim}
 use mathlib.Core.Bool.{Bool, true, false, cond}
@@ -144,8 +144,9 @@ chosen-assigns ok k n f few c =
       },
     )
 
+-- a short group, as the search says it
+pub group-short : {ok : ℕ → ℕ → Bool} {k n : ℕ} {G : ℕ → Bool} → ShortGroup ok k n G → Short ok 0 k 0 n
+group-short {ok} {k} {n} {G} s = record { group = G; inside = λ v g. between-in 0 (0 + k) v (omega arith) (let l = s .inside v g in omega arith); few = s .few }
+
 pub chosen-never : {ok : ℕ → ℕ → Bool} {k n : ℕ} {f : ℕ → ℕ} {G : ℕ → Bool} → k ≤ 32 → n ≤ 32 → Chosen ok k n f → ShortGroup ok k n G → ⊥
-chosen-never {ok} {k} {n} {f} {G} few short c s =
-    let a = chosen-assigns ok k n f few c in
-    let t : Short ok 0 k 0 n = record { group = G; inside = λ v g. between-in 0 (0 + k) v (omega arith) (let l = s .inside v g in omega arith); few = s .few } in
-    short-never t (omega arith) (omega arith) short (a .0) (a .1)
+chosen-never {ok} {k} {n} {f} {G} few short c s = let a = chosen-assigns ok k n f few c in short-never (group-short s) (omega arith) (omega arith) short (a .0) (a .1)

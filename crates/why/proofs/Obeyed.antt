@@ -2,7 +2,8 @@
 -- pairs-agree: `pairs` says of each member which elements it matches.
 -- superset-assigns, assigns-superset: what obeys a superset are the assignments of the whole list by its members.
 -- subset-chosen, chosen-subset: what obeys a subset gives each element a member of its own.
--- short-unmet: where a group is short nothing obeys. chosen-met: where there are choices, something does.
+-- superset-unmet, subset-unmet: where a group is short nothing obeys. superset-met, subset-met: where there are choices, something does.
+-- asked-question: both, of whatever is asked. explained-asked: something is asked of a superset and a subset.
 use mathlib.Core.Path.{_≡_, sym, ap, _∙_, subst}
 use mathlib.Core.Bool.{Bool, true, _&&_, cond}
 use mathlib.Core.Logic.{⊎-elim}
@@ -14,8 +15,8 @@ use lib.ListN.{length, getD}
 use lib.IntN.{ℤ, pos}
 use borrow.Author.Tests.{lt-ltb}
 use Rattle.words.proofs.Cases.{by-test}
-use Rattle.masks.proofs.Lemmas.{same?, below?, between-in, and-left}
-use Rattle.assign.specs.Assignment.{Assigns, Short, allRight, allOnce, assigns}
+use Rattle.masks.proofs.Lemmas.{same?, below?, and-left}
+use Rattle.assign.specs.Assignment.{Assigns, allRight, allOnce, assigns}
 use Rattle.assign.proofs.Assignments.{assigns-test}
 use Rattle.assign.proofs.Counting.{cnt-two}
 use Rattle.assign.proofs.Groups.{short-never}
@@ -32,7 +33,7 @@ use Rattle.matcher.proofs.Pieces.{right-split, length-once}
 use Rattle.matcher.proofs.Bodies.{Agree, ByBlocks, whole-cut, obeys-says, obeys-test}
 use Rattle.matcher.proofs.Entries.{agree-from}
 use Rattle.reasons.specs.Reason.{ShortGroup, Chosen}
-use Rattle.reasons.proofs.Choices.{listed, listed-size, listed-at, listed-once, chosen-assigns, chosen-never}
+use Rattle.reasons.proofs.Choices.{listed, listed-size, listed-at, listed-once, chosen-assigns, group-short, chosen-never}
 use Rattle.why.specs.Why.{pairs, Asked, ofNothing, ofGroups, askedBy, askedOf}
 use Rattle.why.specs.Claims.{Explained, aSuperset, aSubset}
 
@@ -69,13 +70,13 @@ module _ (es : List (Elem Leaf)) (ok : ℕ → ℕ → Bool) (n : ℕ) (few : le
       twice : (i j : ℕ) → i < j → j < n → getD w i 0 ≡ getD w j 0 → ⊥
       twice i j l b q = let size = f .size in let two = cnt-two w i j l (omega arith) q in let one = f .once (getD w j 0) (f .member j b) in omega arith
 
-  chosen-subset : (f : ℕ → ℕ) → Chosen (λ e m. ok m e) n (length es) f → Fills ok (length es) n (listed f n)
-  chosen-subset f c = record {
-    size = listed-size f n;
-    member = λ e l. subst (λ (y : ℕ). y < length es) (sym (listed-at f n e l)) (c .low e l);
-    right = λ e l. subst (λ (y : ℕ). ok y e ≡ true) (sym (listed-at f n e l)) (c .right e l);
-    once = λ m l. listed-once f n m (c .apart);
-  }
+chosen-subset : (es : List (Elem Leaf)) (ok : ℕ → ℕ → Bool) (n : ℕ) (f : ℕ → ℕ) → Chosen (λ e m. ok m e) n (length es) f → Fills ok (length es) n (listed f n)
+chosen-subset es ok n f c = record {
+  size = listed-size f n;
+  member = λ e l. subst (λ (y : ℕ). y < length es) (sym (listed-at f n e l)) (c .low e l);
+  right = λ e l. subst (λ (y : ℕ). ok y e ≡ true) (sym (listed-at f n e l)) (c .right e l);
+  once = λ m l. listed-once f n m (c .apart);
+}
 
 module _ (a : Length) (es : List (Elem Leaf)) (xs : List ℤ) (few : length es ≤ 32) (short : length xs ≤ 32) where
   -- ---- a superset: its members on the elements
@@ -83,8 +84,7 @@ module _ (a : Length) (es : List (Elem Leaf)) (xs : List ℤ) (few : length es �
   unfolding membersOf
   superset-unmet G s w o =
       let c = obeys-says matches a (superset es) (pairs es xs) xs (pairs-agree es xs) few short w o .0 in
-      let t : Short (pairs es xs) 0 (length es) 0 (length xs) = record { group = G; inside = λ v g. between-in 0 (0 + length es) v (omega arith) (let l = s .inside v g in omega arith); few = s .few } in
-      short-never t (omega arith) (omega arith) short w (superset-assigns es (pairs es xs) (length xs) few short w c)
+      short-never (group-short s) (omega arith) (omega arith) short w (superset-assigns es (pairs es xs) (length xs) few short w c)
 
   superset-met : lengthMet a (length xs) ≡ true → (f : ℕ → ℕ) → Chosen (pairs es xs) (length es) (length xs) f → (w : List ℕ) × (obeys (template a (superset es)) xs w ≡ true)
   unfolding membersOf
@@ -103,7 +103,7 @@ module _ (a : Length) (es : List (Elem Leaf)) (xs : List ℤ) (few : length es �
   unfolding membersOf ByBlocks
   subset-met m f c =
       let w = listed f (length xs) in
-      (w, obeys-test matches a (subset es) (pairs es xs) xs (pairs-agree es xs) few short w (chosen-subset es (pairs es xs) (length xs) few short w f c) m)
+      (w, obeys-test matches a (subset es) (pairs es xs) xs (pairs-agree es xs) few short w (chosen-subset es (pairs es xs) (length xs) f c) m)
 
 -- ---- what is asked
 pub record Question (s : Template Leaf) (xs : List ℤ) (ok : ℕ → ℕ → Bool) (k n : ℕ) : Type 0 where
