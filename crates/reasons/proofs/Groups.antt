@@ -165,25 +165,29 @@ module _ {ok : ℕ → ℕ → Bool} {k n : ℕ} where
   reason-short {G} {H} g h = let m = g .most .most H (h .inside) in let f = h .few in record { inside = g .most .inside; few = omega arith }
 
 -- ---- only what members match of the elements matters
-module _ {ok ko : ℕ → ℕ → Bool} {k n : ℕ} (few : k ≤ 32) (same : (v e : ℕ) → v < k → e < n → ok v e ≡ ko v e) where
+abbrev Agrees : (ℕ → ℕ → Bool) → (ℕ → ℕ → Bool) → ℕ → ℕ → Type 0
+Agrees ok ko k n = (v e : ℕ) → v < k → e < n → ok v e ≡ ko v e
+
+met-agree : (ok ko : ℕ → ℕ → Bool) (k n : ℕ) → Agrees ok ko k n → (G : ℕ → Bool) → Group k G → (e : ℕ) → met ok n G e ≡ true → met ko n G e ≡ true
+met-agree ok ko k n same G inside e h =
+    let f = met-inv ok n G e h in
+    let l = met-low ok n G e h in
+    met-in ko n G (f .0) e l (f .1) (f .2) (sym (same (f .0) e (inside (f .0) (f .2)) l) ∙ f .3)
+
+module _ (ok ko : ℕ → ℕ → Bool) (k n : ℕ) (same : Agrees ok ko k n) where
+  turned-round : Agrees ko ok k n
+  turned-round v e l h = sym (same v e l h)
+
   matched-agree : (G : ℕ → Bool) → Group k G → matched ok n G ≡ matched ko n G
-  matched-agree G inside =
-      let over : (e : ℕ) → met ok n G e ≡ true → met ko n G e ≡ true = λ e h. let f = met-inv ok n G e h in let l = met-low ok n G e h in met-in ko n G (f .0) e l (f .1) (f .2) (sym (same (f .0) e (inside (f .0) (f .2)) l) ∙ f .3) in
-      let back : (e : ℕ) → met ko n G e ≡ true → met ok n G e ≡ true = λ e h. let f = met-inv ko n G e h in let l = met-low ko n G e h in met-in ok n G (f .0) e l (f .1) (f .2) (same (f .0) e (inside (f .0) (f .2)) l ∙ f .3) in
-      count-same (met ok n G) (met ko n G) (λ e. same-test (met ok n G e) (met ko n G e) (over e) (back e)) 32
+  matched-agree G inside = count-same (met ok n G) (met ko n G) (λ e. same-test (met ok n G e) (met ko n G e) (met-agree ok ko k n same G inside e) (met-agree ko ok k n turned-round G inside e)) 32
 
   most-agree : {G : ℕ → Bool} → Most ok k n G → Most ko k n G
   most-agree {G} g = record { inside = g .inside; most = λ H inside. let a = g .most H inside in let b = matched-agree G (g .inside) in let c = matched-agree H inside in omega arith }
 
-  most-back : {G : ℕ → Bool} → Most ko k n G → Most ok k n G
-  most-back {G} g = record { inside = g .inside; most = λ H inside. let a = g .most H inside in let b = matched-agree G (g .inside) in let c = matched-agree H inside in omega arith }
-
   short-agree : {G : ℕ → Bool} → ShortGroup ok k n G → ShortGroup ko k n G
   short-agree {G} s = record { inside = s .inside; few = let a = s .few in let b = matched-agree G (s .inside) in omega arith }
 
-  short-back : {G : ℕ → Bool} → ShortGroup ko k n G → ShortGroup ok k n G
-  short-back {G} s = record { inside = s .inside; few = let a = s .few in let b = matched-agree G (s .inside) in omega arith }
-
-  pub given-agree : {r : ℕ} → Given ok k n r → Given ko k n r
-  given-agree (aReason g s) = aReason (record { most = most-agree (g .most); least = λ H h. g .least H (most-back h) }) (short-agree s)
-  given-agree (noReason z never) = noReason z (λ G s. never G (short-back s))
+pub given-agree : {ok ko : ℕ → ℕ → Bool} {k n r : ℕ} → Agrees ok ko k n → Given ok k n r → Given ko k n r
+given-agree {ok} {ko} {k} {n} same (aReason g s) =
+    aReason (record { most = most-agree ok ko k n same (g .most); least = λ H h. g .least H (most-agree ko ok k n (turned-round ok ko k n same) h) }) (short-agree ok ko k n same s)
+given-agree {ok} {ko} {k} {n} same (noReason z never) = noReason z (λ G s. never G (short-agree ko ok k n (turned-round ok ko k n same) s))

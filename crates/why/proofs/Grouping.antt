@@ -6,7 +6,7 @@ use mathlib.Core.Path.{_≡_, refl, sym, ap, _∙_, subst}
 use mathlib.Core.Bool.{Bool, true, false, _&&_, _||_, cond}
 use mathlib.Core.Logic.{⊎-elim}
 use mathlib.Core.List.{List, []}
-use Prim.Native.Nat.{ℕ, _≤_, _<_}
+use Prim.Native.Nat.{ℕ, _<_}
 use native.Mathlib.Omega.{arith}
 use lib.Dec.{eqb, leb}
 use lib.ListN.{length, getD, take}
@@ -76,19 +76,19 @@ rows-pairs : {es : List (Elem Leaf)} {xs : List ℤ} {rows : List ℕ} → RowsO
 unfolding pairs
 rows-pairs {es} {xs} r m e l h = r .right m e l h ∙ sym (ap (λ (s : Bool). s && memberHits matches es m (getD xs e (pos 0))) (lt-ltb e (length xs) h))
 
-superset-asks : (b : Body Leaf) (xs : List ℤ) (rows : List ℕ) (g : ℕ) → length (membersOf b) ≤ 32 → bodyKind b ≡ 0x12 → RowsOf (membersOf b) xs rows → Given (may rows) (length (membersOf b)) (length xs) g → Grouped (askedBy b xs) g
+superset-asks : (b : Body Leaf) (xs : List ℤ) (rows : List ℕ) (g : ℕ) → bodyKind b ≡ 0x12 → RowsOf (membersOf b) xs rows → Given (may rows) (length (membersOf b)) (length xs) g → Grouped (askedBy b xs) g
 unfolding bodyKind askedBy Grouped membersOf
-superset-asks (recordOf is) xs rows g few k r h = absurd (omega arith)
-superset-asks (setOf x) xs rows g few k r h = absurd (omega arith)
-superset-asks (superset es) xs rows g few k r h = given-agree few (rows-pairs r) h
-superset-asks (subset es) xs rows g few k r h = absurd (omega arith)
+superset-asks (recordOf is) xs rows g k r h = absurd (omega arith)
+superset-asks (setOf x) xs rows g k r h = absurd (omega arith)
+superset-asks (superset es) xs rows g k r h = given-agree (rows-pairs r) h
+superset-asks (subset es) xs rows g k r h = absurd (omega arith)
 
-subset-asks : (b : Body Leaf) (xs : List ℤ) (rows : List ℕ) (g : ℕ) → length xs ≤ 32 → bodyKind b ≡ 0x13 → RowsOf (membersOf b) xs rows → Given (λ e m. may rows m e) (length xs) (length (membersOf b)) g → Grouped (askedBy b xs) g
+subset-asks : (b : Body Leaf) (xs : List ℤ) (rows : List ℕ) (g : ℕ) → bodyKind b ≡ 0x13 → RowsOf (membersOf b) xs rows → Given (λ e m. may rows m e) (length xs) (length (membersOf b)) g → Grouped (askedBy b xs) g
 unfolding bodyKind askedBy Grouped membersOf
-subset-asks (recordOf is) xs rows g short k r h = absurd (omega arith)
-subset-asks (setOf x) xs rows g short k r h = absurd (omega arith)
-subset-asks (superset es) xs rows g short k r h = absurd (omega arith)
-subset-asks (subset es) xs rows g short k r h = given-agree short (λ e m l i. rows-pairs r m e i l) h
+subset-asks (recordOf is) xs rows g k r h = absurd (omega arith)
+subset-asks (setOf x) xs rows g k r h = absurd (omega arith)
+subset-asks (superset es) xs rows g k r h = absurd (omega arith)
+subset-asks (subset es) xs rows g k r h = given-agree (λ e m l i. rows-pairs r m e i l) h
 
 -- ---- by the plan
 module _ (t : List ℕ) (p : Plan) (xs : List ℤ) (taken : Taken t xs) (plan : PlanOf t p) (zero : p .number ≡ 0) (met : Bool) (says : met ≡ (leb (p .low) (length xs) && leb (length xs) (p .high))) where
@@ -105,11 +105,11 @@ module _ (t : List ℕ) (p : Plan) (xs : List ℤ) (taken : Taken t xs) (plan : 
     module _ (rows : List ℕ) (right : (es : List (Elem Leaf)) → Standing t es (take (p .members) (p .places)) → RowsOf es xs rows) (g : ℕ) where
       pub group-superset : p .kind ≡ 0x12 → Given (may rows) (p .members) (length xs) g → GroupFor t xs g
       group-superset k h = by-body g (λ a b pl.
-          superset-asks b xs rows g (let s = pl .size in let f = pl .fewMembers in omega arith) (sym (pl .kind) ∙ k) (right (membersOf b) (pl .stands)) (subst (λ (i : ℕ). Given (may rows) i (length xs) g) (pl .size) h))
+          superset-asks b xs rows g (sym (pl .kind) ∙ k) (right (membersOf b) (pl .stands)) (subst (λ (i : ℕ). Given (may rows) i (length xs) g) (pl .size) h))
 
       pub group-subset : p .kind ≡ 0x13 → Given (λ e m. may rows m e) (length xs) (p .members) g → GroupFor t xs g
       group-subset k h = by-body g (λ a b pl.
-          subset-asks b xs rows g (taken .1) (sym (pl .kind) ∙ k) (right (membersOf b) (pl .stands)) (subst (λ (i : ℕ). Given (λ e m. may rows m e) (length xs) i g) (pl .size) h))
+          subset-asks b xs rows g (sym (pl .kind) ∙ k) (right (membersOf b) (pl .stands)) (subst (λ (i : ℕ). Given (λ e m. may rows m e) (length xs) i g) (pl .size) h))
 
 -- ---- the test of the kind
 pub neither : (kind : ℕ) → (eqb kind 0x12 || eqb kind 0x13) ≡ false → (kind ≡ 0x12 → ⊥) × (kind ≡ 0x13 → ⊥)

@@ -18,9 +18,8 @@ reason-requires c κs = search needs
 returns : tie.Need-returns
 returns c =
     let turning = c .before .before in
-    let p = turning .before .pre in
     let cols = turning .turned .result in
-    given-agree (p .1) (λ e m l h. sym (row-may cols e m) ∙ row-picks cols m e ∙ turned-same (turning .turned .ensures) m e (between-in 0 _ m (omega arith) (omega arith)) (between-in 0 _ e (omega arith) l)) (c .reason .ensures)
+    given-agree (λ e m l h. sym (row-may cols e m) ∙ row-picks cols m e ∙ turned-same (turning .turned .ensures) m e (between-in 0 _ m (omega arith) (omega arith)) (between-in 0 _ e (omega arith) (omega arith))) (c .reason .ensures)
 
 pub exchanged-reason-spec : {M : Type 1} → statement M
 exchanged-reason-spec = tie.close (tie.spec turned-requires reason-requires returns)
