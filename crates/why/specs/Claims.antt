@@ -2,6 +2,7 @@
 -- Unmatched t xs s <-> t is accepted as s, no row of the table holds, and no assignment obeys
 -- Explained s xs <-> s is a superset or a subset, and any length attribute is met
 -- GivenWhere    <-> a group is given exactly where a superset or a subset whose length is met does not match
+-- OfGiven P     <-> P holds of every group that is given, and of what is asked: the relation and the two counts
 -- GivenShort    <-> "the number of elements that at least one of a group of members matches is below the group's size"
 -- NoneShorter   <-> no group's shortfall is greater
 -- InsideOthers  <-> of the groups whose shortfall is greatest it "lies inside all the others"
@@ -39,17 +40,18 @@ abbrev pub GivenWhere : Type 0
 GivenWhere = (t : List ℕ) (xs : List ℤ) (r g : ℕ) → WhyOf t xs r g
     → ((g ≡ 0 → ⊥) → (s : Template Leaf) × Unmatched t xs s × Explained s xs) × ((s : Template Leaf) → Unmatched t xs s → Explained s xs → g ≡ 0 → ⊥)
 
+abbrev pub OfGiven : ((ℕ → ℕ → Bool) → ℕ → ℕ → ℕ → Type 0) → Type 0
+OfGiven P = (t : List ℕ) (xs : List ℤ) (r g : ℕ) → WhyOf t xs r g → (g ≡ 0 → ⊥) → (s : Template Leaf) → readTemplate leafHead t ≡ got s []
+    → (ok : ℕ → ℕ → Bool) (k n : ℕ) → askedOf s xs ≡ ofGroups ok k n → P ok k n g
+
 abbrev pub GivenShort : Type 0
-GivenShort = (t : List ℕ) (xs : List ℤ) (r g : ℕ) → WhyOf t xs r g → (g ≡ 0 → ⊥) → (s : Template Leaf) → readTemplate leafHead t ≡ got s []
-    → (ok : ℕ → ℕ → Bool) (k n : ℕ) → askedOf s xs ≡ ofGroups ok k n → ShortGroup ok k n (bit g)
+GivenShort = OfGiven (λ ok k n g. ShortGroup ok k n (bit g))
 
 abbrev pub NoneShorter : Type 0
-NoneShorter = (t : List ℕ) (xs : List ℤ) (r g : ℕ) → WhyOf t xs r g → (g ≡ 0 → ⊥) → (s : Template Leaf) → readTemplate leafHead t ≡ got s []
-    → (ok : ℕ → ℕ → Bool) (k n : ℕ) → askedOf s xs ≡ ofGroups ok k n → (H : ℕ → Bool) → Group k H → NoLess ok n (bit g) H
+NoneShorter = OfGiven (λ ok k n g. (H : ℕ → Bool) → Group k H → NoLess ok n (bit g) H)
 
 abbrev pub InsideOthers : Type 0
-InsideOthers = (t : List ℕ) (xs : List ℤ) (r g : ℕ) → WhyOf t xs r g → (g ≡ 0 → ⊥) → (s : Template Leaf) → readTemplate leafHead t ≡ got s []
-    → (ok : ℕ → ℕ → Bool) (k n : ℕ) → askedOf s xs ≡ ofGroups ok k n → (H : ℕ → Bool) → Most ok k n H → (v : ℕ) → bit g v ≡ true → H v ≡ true
+InsideOthers = OfGiven (λ ok k n g. (H : ℕ → Bool) → Most ok k n H → (v : ℕ) → bit g v ≡ true → H v ≡ true)
 
 abbrev pub NumberAgrees : Type 0
 NumberAgrees = (t : List ℕ) (xs : List ℤ) (r g : ℕ) → WhyOf t xs r g
