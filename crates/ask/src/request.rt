@@ -1,10 +1,10 @@
 // One request and its answer.
 use crate::text;
+use integers::int_at;
 use matcher::judge;
 use matcher::match_list;
 use normal::normalise;
 use why::why_not;
-use words::int_at;
 ghost use Prim.Native.Nat.{_≤_};
 ghost use mathlib.Core.Path.{_≡_};
 ghost use lib.ListN.{length};

@@ -18,7 +18,7 @@ use mathlib.Core.Bool.{Bool, true, false}
 use mathlib.Core.List.{List}
 use Prim.Native.Nat.{ℕ, _+_, _≤_, _<_}
 use lib.ListN.{getD}
-use Rattle.masks.specs.Rows.{between}
+use Rattle.facts.specs.Counting.{between}
 use Rattle.assign.specs.Saturate.{Dealt}
 
 pub record Last (w : List ℕ) (m to p : ℕ) : Type 0 where

@@ -11,9 +11,9 @@ use mathlib.Core.Bool.{Bool, true, false, _&&_}
 use mathlib.Core.List.{List}
 use Prim.Native.Nat.{ℕ, _+_, _≤_, _<_}
 use lib.ListN.{length, getD, replicate}
-use Rattle.masks.specs.Rows.{between, cnt}
-use Rattle.assign.specs.Assignment.{Short}
-use Rattle.assign.specs.Chain.{within}
+use Rattle.facts.specs.Counting.{between, cnt}
+use Rattle.blocks.specs.Assignment.{Short}
+use Rattle.chains.specs.Chain.{within}
 
 unfoldable pub fits : (ℕ → ℕ → Bool) → ℕ → ℕ → ℕ → ℕ → ℕ → ℕ → Bool
 fits may first k from to m e = between first (first + k) m && within may from to m e

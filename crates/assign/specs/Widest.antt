@@ -8,8 +8,8 @@ use mathlib.Core.Path.{_≡_}
 use mathlib.Core.Bool.{Bool, true}
 use mathlib.Core.List.{List}
 use Prim.Native.Nat.{ℕ, _+_, _<_}
-use Rattle.masks.specs.Rows.{between, cnt}
-use Rattle.assign.specs.Chain.{Owned}
+use Rattle.facts.specs.Counting.{between, cnt}
+use Rattle.chains.specs.Chain.{Owned}
 use Rattle.assign.specs.Saturate.{Partly}
 
 abbrev pub Nowhere : (ℕ → Bool) → List ℕ → Type 0

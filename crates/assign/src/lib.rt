@@ -1,26 +1,18 @@
 // The first assignment of a piece by a block, in byte order. Members and elements are numbers below 32, and bit m of `rows[e]` says
 // that member m may take element e. Chains start at members, so the search goes by columns, the rows turned.
 ghost use Prim.Native.Nat.{_+_, _≤_};
-ghost use Rattle.masks.specs.Rows.{bit, may};
-ghost use Rattle.assign.specs.Assignment.{Answer};
+ghost use Rattle.assign.specs.Splice.{Spliced};
+ghost use Rattle.masks.specs.Masks.{bit};
+ghost use Rattle.rows.specs.Rows.{may};
+ghost use Rattle.assign.specs.Answer.{Answer};
 ghost use Rattle.assign.specs.Widest.{Widest};
-use columns::turned;
+use blocks::Found;
+use rows::turned;
 
-mod visit; // going through a mask, bit by bit
-mod chain; // one member more, by an alternating chain
 mod quick; // the least free member for each element
 mod saturate; // an assignment, if there is one
 mod refine; // from an assignment to the first one
 mod widest; // as many members as can be
-
-// The byte of an element that no member has.
-const SPARE: u8 = 255;
-
-// Whether there is an assignment, and the byte of each element.
-pub struct Found {
-    pub found: bool,
-    pub w: [u8; 32],
-}
 
 // The byte of each element, and the members that have none.
 pub struct Served {
@@ -60,4 +52,19 @@ pub fn widest_assignment(rows: &[u32; 32], k: u8, n: u8) -> Served
     let columns = turned(rows, 0, k, 0, n);
     let begun = q.w;
     widest::serve_all(&columns, 0, n, begun, q.waiting)
+}
+
+// The bytes from .. to - 1 of a, and the other bytes of b.
+pub fn splice(a: [u8; 32], b: [u8; 32], from: usize, to: usize) -> [u8; 32]
+    requires { ⌜ (from ≤ to) × (to ≤ 32) ⌝ }
+    ensures { λ r. ⌜ Spliced a b from to r ⌝ }
+{
+    let mut r = b;
+    let mut e = from;
+    while e < to {
+        let x = a[e];
+        r[e] = x;
+        e += 1;
+    }
+    r
 }

@@ -1,11 +1,12 @@
 // The least free member for each element in turn. Where that serves every member of the block, it is the first assignment.
 ghost use Prim.Native.Nat.{_+_, _≤_};
-ghost use Rattle.masks.specs.Rows.{bit, may};
+ghost use Rattle.masks.specs.Masks.{bit};
+ghost use Rattle.rows.specs.Rows.{may};
 ghost use Rattle.assign.specs.Quick.{Greedy};
-use crate::SPARE;
 use crate::Served;
-use crate::visit::flip;
-use crate::visit::lowest;
+use format::SPARE;
+use masks::flip;
+use masks::lowest;
 use masks::span;
 
 // Each of the elements from .. to - 1 takes the least member of the block that is left and may take it.

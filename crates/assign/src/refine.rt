@@ -1,32 +1,27 @@
 // From an assignment to the first one in byte order: from left to right each element is given the least member that it can have.
-ghost use mathlib.Core.Path.{_≡_};
-ghost use Prim.Native.Nat.{ℕ, _+_, _<_, _≤_, min};
-ghost use Rattle.masks.specs.Rows.{bit, Stands, picks};
+ghost use Prim.Native.Nat.{ℕ, _+_, _<_, _≤_};
+ghost use Rattle.masks.specs.Masks.{bit};
+ghost use Rattle.facts.specs.Counting.{Stands};
+ghost use Rattle.rows.specs.Rows.{picks};
 ghost use Rattle.assign.specs.Saturate.{Dealt};
 ghost use Rattle.assign.specs.Refine.{Rivals, Candidates, Last, Later, Asks, Exchanged, Improved, Leads};
-use crate::Found;
-use crate::SPARE;
-use crate::chain::open_places;
-use crate::chain::place;
-use crate::chain::settle;
-use crate::visit::flip;
-use crate::visit::lowest;
-use columns::may_pick;
+use blocks::Found;
+use chains::open_places;
+use chains::place;
+use chains::settle;
+use format::SPARE;
+use masks::flip;
+use masks::lesser_byte;
+use masks::lowest;
 use masks::with;
-
-// The lesser of two.
-fn least(a: u8, b: u8) -> u8
-    ensures { λ r. ⌜ r ≡ min a b ⌝ }
-{
-    if a < b { a } else { b }
-}
+use rows::may_pick;
 
 // The members with a place after e that may take e and are below its byte: who can make the list come earlier.
 fn rivals(columns: &[u32; 32], to: u8, w: [u8; 32], e: u8) -> u32
     requires { ⌜ (e < to) × (to ≤ 32) ⌝ }
     ensures { λ r. ⌜ Rivals (picks (now (columns .entry))) w e to (bit r) ⌝ }
 {
-    let bound = least(w[e as usize], 32);
+    let bound = lesser_byte(w[e as usize], 32);
     let mut found: u32 = 0;
     let mut p = e + 1;
     while p < to {

@@ -1,13 +1,14 @@
 // An assignment of the piece by the block, if there is one: the members that are left are served in turn.
 ghost use Prim.Native.Nat.{ℕ, _+_, _≤_};
-ghost use Rattle.masks.specs.Rows.{bit, picks};
+ghost use Rattle.masks.specs.Masks.{bit};
+ghost use Rattle.rows.specs.Rows.{picks};
 ghost use Rattle.assign.specs.Saturate.{Partly, Saturated};
-use crate::Found;
-use crate::SPARE;
-use crate::chain::open_places;
-use crate::chain::settle;
-use crate::visit::flip;
-use crate::visit::lowest;
+use blocks::Found;
+use chains::open_places;
+use chains::settle;
+use format::SPARE;
+use masks::flip;
+use masks::lowest;
 use masks::with;
 
 // An assignment of the elements from .. to - 1, from one in which the members of `left` have none.

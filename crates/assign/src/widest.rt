@@ -1,13 +1,14 @@
 // As many members as can be, each with an element of its own: who finds no chain waits, and the search for the others goes on.
 ghost use Prim.Native.Nat.{ℕ, _+_, _≤_};
-ghost use Rattle.masks.specs.Rows.{bit, picks};
+ghost use Rattle.masks.specs.Masks.{bit};
+ghost use Rattle.rows.specs.Rows.{picks};
 ghost use Rattle.assign.specs.Saturate.{Partly};
 ghost use Rattle.assign.specs.Widest.{Nowhere, Widest};
 use crate::Served;
-use crate::chain::open_places;
-use crate::chain::settle;
-use crate::visit::flip;
-use crate::visit::lowest;
+use chains::open_places;
+use chains::settle;
+use masks::flip;
+use masks::lowest;
 use masks::with;
 
 // The elements from .. to - 1 for as many as can be, from an assignment in which the members of `left` have none.

@@ -8,19 +8,20 @@ use native.Mathlib.Numerals.{add-one}
 use native.Mathlib.Omega.{arith}
 use lib.ListN.{length, getD, take, drop, replicate, drop-of-length-le, length-replicate, getD-replicate, length-take}
 use lib.Seq.{slice, slice-empty, drop-cons, getD-take}
-use Rattle.assign.specs.Order.{earlier, First, Joins}
-use Rattle.masks.specs.Rows.{between}
-use Rattle.assign.specs.Assignment.{Assigns}
-use Rattle.assign.proofs.Laws.{none-joins-right}
-use Rattle.assign.proofs.Groups.{takes-spare}
-use Rattle.masks.proofs.Lemmas.{same?, holds?, clash, not-so, between-to}
+use Rattle.byte_order.specs.ByteOrder.{earlier, First, Joins}
+use Rattle.facts.specs.Counting.{between}
+use Rattle.blocks.specs.Assignment.{Assigns}
+use Rattle.byte_order.proofs.ByteOrder.{none-joins-right}
+use Rattle.blocks.proofs.Assignments.{takes-spare}
+use Rattle.facts.proofs.Cases.{same?, holds?, clash, not-so}
+use Rattle.facts.proofs.Spans.{between-to}
 use Rattle.blocks.specs.declared.Block.{Block}
 use Rattle.cuts.specs.declared.Suffix.{Suffix}
-use Rattle.cuts.specs.Cut.{Takes, Cuts, Inside, Cutting}
+use Rattle.blocks.specs.Pieces.{Takes, Cuts, Cutting}
 use Rattle.cuts.specs.Table.{Given, nothing, entry, Written, shortest, longest, together, Tabled, Prepended, Kept, alone, CutBefore}
-use Rattle.cuts.proofs.Bytes.{blank-entry}
-use Rattle.cuts.proofs.Givens.{given-none, given-same, kept-union, joined-spare, spare-bytes}
-use Rattle.cuts.proofs.Laws.{cuts-order}
+use Rattle.cuts.proofs.TableEntries.{blank-entry}
+use Rattle.cuts.proofs.Suffixes.{given-none, given-same, kept-union, joined-spare, spare-bytes}
+use Rattle.blocks.proofs.Cutting.{cuts-order}
 
 -- ---- no blocks
 abbrev pub empty : Suffix
@@ -333,12 +334,6 @@ unfolding together
 together-none f [] = refl
 together-none f (b ∷ bs) = refl
 
-pub inside-at : (d : Block) (bs : List Block) (j : ℕ) → j < length bs → Inside bs → getD bs j d .first + getD bs j d .k ≤ 32
-unfolding Inside
-inside-at d [] j l h = absurd (omega arith)
-inside-at d (b ∷ bs) zero l h = h .0
-inside-at d (b ∷ bs) (suc j) l h = inside-at d bs j (omega arith) (h .1)
-
 module _ (may : ℕ → ℕ → Bool) (blocks : List Block) (count n : ℕ) (size : length blocks ≡ 32) (few : count ≤ 32) where
   long : length (take count blocks) ≡ count
   long = let x = length-take count blocks in omega arith
@@ -357,11 +352,6 @@ module _ (may : ℕ → ℕ → Bool) (blocks : List Block) (count n : ℕ) (siz
       drop-cons (take count blocks) i d (omega arith) ∙ rw (getD-take count blocks i d (omega arith), q) in
       let h : Tabled may (drop j (take count blocks)) n (low′ + shortest (getD blocks i d)) (high′ + longest (getD blocks i d)) t = rw (ql, qh) at g in
       subst (λ (bs : List Block). Tabled may bs n low′ high′ u) (sym e) (more .more (drop j (take count blocks)) h)
-
-  pub cut-inside : (d : Block) (i : ℕ) → i < count → Inside (take count blocks) → getD blocks i d .first + getD blocks i d .k ≤ 32
-  cut-inside d i l h =
-      let x = long in
-      subst (λ (b : Block). b .first + b .k ≤ 32) (getD-take count blocks i d l) (inside-at d (take count blocks) i (omega arith) h)
 
 pub cut-end : (may : ℕ → ℕ → Bool) (bs : List Block) {n : ℕ} {s : Suffix} → Given (Cuts may bs 0 n) 0 n s → Cutting may bs n (s .there) (s .w)
 cut-end may bs {n} {s} g = record {

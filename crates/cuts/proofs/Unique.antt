@@ -1,4 +1,4 @@
--- The contracts of the public functions allow one result each. Stated of the contracts themselves, as the check reads them. Assumes nothing.
+-- The contract of `first_cut` allows one result. Stated of the contract itself, as the check reads it. Assumes nothing.
 use mathlib.Core.Path.{_≡_, ap₂}
 use mathlib.Core.Bool.{Bool}
 use mathlib.Core.List.{List}
@@ -6,12 +6,10 @@ use Prim.Native.Nat.{ℕ}
 use borrow.Fn.Kinds.{Dens, resT, endedOf}
 use contract.Lifetimes.{Lfts}
 use denote.Triple.Clauses.{AtExit}
-use Rattle.assign.specs.declared.Found.{Found}
-use Rattle.cuts.proofs.Claims.{best-unique}
+use Rattle.blocks.specs.declared.Found.{Found}
+use Rattle.blocks.proofs.FirstLists.{best-unique}
 use Rattle.cuts.proofs.first_cut.Reads as cut-reads
 use Rattle.cuts.proofs.first_cut.Kinds as cut-kinds
-use Rattle.cuts.proofs.first_filling.Reads as filling-reads
-use Rattle.cuts.proofs.first_filling.Kinds as filling-kinds
 
 abbrev made : Bool → List ℕ → Found
 made found w = record { found = found; w = w }
@@ -19,7 +17,3 @@ made found w = record { found = found; w = w }
 pub first-cut-unique : (κs : Lfts 1) (a : Dens κs cut-kinds.ps) (r r' : resT cut-kinds.r κs .Denot) (s s' : AtExit (endedOf 1 cut-kinds.ps cut-kinds.r) κs)
     → cut-reads.Post κs a r s → cut-reads.Post κs a r' s' → r ≡ r'
 first-cut-unique κs a r r' s s' p q = let u = best-unique p q in ap₂ made (u .0) (u .1)
-
-pub first-filling-unique : (κs : Lfts 1) (a : Dens κs filling-kinds.ps) (r r' : resT filling-kinds.r κs .Denot) (s s' : AtExit (endedOf 1 filling-kinds.ps filling-kinds.r) κs)
-    → filling-reads.Post κs a r s → filling-reads.Post κs a r' s' → r ≡ r'
-first-filling-unique κs a r r' s s' p q = let u = best-unique p q in ap₂ made (u .0) (u .1)

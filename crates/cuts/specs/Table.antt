@@ -7,7 +7,6 @@
 -- together f bs            == f of each of bs, added up
 -- Tabled may bs n low high t <-> at the places low .. high, the table t gives what the blocks bs take up to n
 -- Prepended may b n low high before after <-> where `before` is a table of some blocks, `after` is that of b and these, at the places low .. high
--- Spliced a b from to r    <-> r is b with the bytes from .. to - 1 of a
 -- Kept from to a b r       <-> r is the one of a and b that is there, or comes first
 -- Single may m from rest r <-> r is rest with the member m before it, at the place `from`, or nothing where m may not take that element
 -- CutBefore may b rest from to stop w <-> w is a cut whose first piece, by b, ends before `stop`
@@ -19,11 +18,11 @@ use Prim.Native.Nat.{ℕ, _+_, _*_, _≤_, _<_}
 use lib.Dec.{eqb}
 use lib.ListN.{length, getD, set, replicate}
 use lib.Seq.{slice}
-use Rattle.assign.specs.Order.{First, Joins, earlier}
-use Rattle.masks.specs.Rows.{between}
+use Rattle.byte_order.specs.ByteOrder.{First, Joins, earlier}
+use Rattle.facts.specs.Counting.{between}
 use Rattle.blocks.specs.declared.Block.{Block}
 use Rattle.cuts.specs.declared.Suffix.{Suffix}
-use Rattle.cuts.specs.Cut.{Takes, Cuts}
+use Rattle.blocks.specs.Pieces.{Takes, Cuts}
 
 pub record Given (P : List ℕ → Type 0) (from to : ℕ) (s : Suffix) : Type 0 where
   pub best : s .there ≡ true → First P (slice from to (s .w))
@@ -61,12 +60,6 @@ pub record Tabled (may : ℕ → ℕ → Bool) (bs : List Block) (n low high : �
 pub record Prepended (may : ℕ → ℕ → Bool) (b : Block) (n low high : ℕ) (before after : List ℕ) : Type 0 where
   pub size : length after ≡ 1089
   pub more : (bs : List Block) → Tabled may bs n (low + shortest b) (high + longest b) before → Tabled may (b ∷ bs) n low high after
-
-pub record Spliced (a b : List ℕ) (from to : ℕ) (r : List ℕ) : Type 0 where
-  pub size : length r ≡ 32
-  pub inside : (i : ℕ) → from ≤ i → i < to → getD r i 0 ≡ getD a i 0
-  pub before : (i : ℕ) → i < from → getD r i 0 ≡ getD b i 0
-  pub after : (i : ℕ) → to ≤ i → getD r i 0 ≡ getD b i 0
 
 pub data Kept (from to : ℕ) (a b : Suffix) : Suffix → Type 0 where
   without : b .there ≡ false → Kept from to a b a

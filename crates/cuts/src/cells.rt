@@ -4,8 +4,8 @@ ghost use mathlib.Core.Path.{_≡_};
 ghost use Prim.Native.Nat.{_≤_};
 ghost use lib.ListN.{length};
 ghost use Rattle.cuts.specs.Table.{entry, Written};
-use crate::SPARE;
 use crate::Suffix;
+use format::SPARE;
 
 const WIDTH: usize = 33;
 

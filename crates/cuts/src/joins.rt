@@ -4,16 +4,17 @@ ghost use mathlib.Core.Bool.{true};
 ghost use mathlib.Core.List.{List};
 ghost use Prim.Native.Nat.{ℕ, _+_, _-_, _≤_, _<_};
 ghost use lib.Seq.{slice};
-ghost use Rattle.masks.specs.Rows.{may};
-ghost use Rattle.assign.specs.Order.{earlier, Joins};
+ghost use Rattle.rows.specs.Rows.{may};
+ghost use Rattle.byte_order.specs.ByteOrder.{earlier, Joins};
 ghost use Rattle.blocks.specs.declared.Block.{Block as BlockOf};
-ghost use Rattle.cuts.specs.Cut.{Takes, Cuts};
-ghost use Rattle.cuts.specs.Table.{Given, Spliced, Kept, Single};
-use crate::SPARE;
+ghost use Rattle.blocks.specs.Pieces.{Takes, Cuts};
+ghost use Rattle.cuts.specs.Table.{Given, Kept, Single};
 use crate::Suffix;
 use assign::first_assignment;
+use assign::splice;
 use blocks::Block;
-use masks::rows::may_take;
+use format::SPARE;
+use rows::may_take;
 
 // Whether a comes before b in byte order, by the places from .. to - 1.
 pub fn comes_before(a: [u8; 32], b: [u8; 32], from: usize, to: usize) -> bool
@@ -30,21 +31,6 @@ pub fn comes_before(a: [u8; 32], b: [u8; 32], from: usize, to: usize) -> bool
         e += 1;
     }
     false
-}
-
-// The bytes from .. to - 1 of a, and the other bytes of b.
-pub fn splice(a: [u8; 32], b: [u8; 32], from: usize, to: usize) -> [u8; 32]
-    requires { ⌜ (from ≤ to) × (to ≤ 32) ⌝ }
-    ensures { λ r. ⌜ Spliced a b from to r ⌝ }
-{
-    let mut r = b;
-    let mut e = from;
-    while e < to {
-        let x = a[e];
-        r[e] = x;
-        e += 1;
-    }
-    r
 }
 
 // The one that is there, or comes first.

@@ -3,19 +3,20 @@
 ghost use mathlib.Core.Bool.{Bool};
 ghost use mathlib.Core.Path.{_≡_};
 ghost use mathlib.Core.List.{List, [], _∷_};
-ghost use Prim.Native.Nat.{ℕ, _+_, _≤_, min};
+ghost use Prim.Native.Nat.{ℕ, _+_, _≤_};
 ghost use lib.ListN.{length, take};
-ghost use Rattle.masks.specs.Rows.{may};
+ghost use Rattle.rows.specs.Rows.{may};
 ghost use Rattle.blocks.specs.declared.Block.{Block as BlockOf};
-ghost use Rattle.cuts.specs.Cut.{Cuts};
+ghost use Rattle.blocks.specs.Pieces.{Cuts};
 ghost use Rattle.cuts.specs.Table.{Given, Tabled, Prepended, shortest, longest, together};
-use crate::SPARE;
 use crate::Suffix;
 use crate::cells::read;
 use crate::cells::write;
 use crate::joins::joined;
 use crate::joins::keep;
 use blocks::Block;
+use format::SPARE;
+use masks::lesser;
 
 // How many elements blocks take together: at least `low`, at most `high`.
 pub struct Extent {
@@ -50,13 +51,6 @@ pub fn last(n: usize) -> [u8; 1089]
     let empty = Suffix { there: true, w: w };
     write(&mut t, n, empty);
     t
-}
-
-// The lesser of two.
-fn lesser(a: usize, b: usize) -> usize
-    ensures { λ r. ⌜ r ≡ min a b ⌝ }
-{
-    if a < b { a } else { b }
 }
 
 // What b and the blocks of the table take from the place `from` on: over each end of b's piece, the lesser.

@@ -2,8 +2,8 @@
 ghost use mathlib.Core.Path.{_≡_};
 ghost use Prim.Native.Nat.{_+_, _≤_};
 ghost use lib.ListN.{length};
-use intake_lines::header;
-use intake_lines::step;
+use intake_lines::answer_next;
+use intake_lines::open_input;
 use libc::STDIN_FILENO;
 use libc::STDOUT_FILENO;
 
@@ -37,7 +37,7 @@ fn print_lists(template: &[u8], input: &[u8], first: usize, out: &mut [u8])
     let mut number: u32 = 1;
     let mut filled: usize = 0;
     loop {
-        let turn = step(template, input, at, number, &mut out[filled..]);
+        let turn = answer_next(template, input, at, number, &mut out[filled..]);
         let end = filled + turn.wrote;
         if !turn.more {
             io::write_all(STDOUT_FILENO, &out[..end]);
@@ -53,7 +53,7 @@ fn print_lists(template: &[u8], input: &[u8], first: usize, out: &mut [u8])
 fn print_all(input: &[u8], out: &mut [u8])
     requires { ⌜ (length (now input) ≤ 65537) × (256 ≤ length (now out)) ⌝ }
 {
-    let head = header(input, out);
+    let head = open_input(input, out);
     if !head.more {
         let end = head.wrote;
         io::write_all(STDOUT_FILENO, &out[..end]);

@@ -1,12 +1,13 @@
--- How far the header and a turn go, for a caller that goes on from there. Assumes nothing.
+-- How far a call goes, for a caller that goes on from there. Assumes nothing.
 use mathlib.Core.Path.{_≡_, ap, _∙_}
 use mathlib.Core.Bool.{Bool, true, false}
 use mathlib.Core.List.{List}
 use Prim.Native.Nat.{ℕ, _+_, _≤_}
 use native.Mathlib.Omega.{arith}
 use lib.ListN.{length, drop, length-append, length-drop}
+use Rattle.lines.specs.Contract.{Wrote}
 use Rattle.intake_lines.specs.Output.{Turn}
-use Rattle.intake_lines.specs.Contract.{Wrote, Headed, refused, found, Turned, stopped, went}
+use Rattle.intake_lines.specs.Contract.{Headed, refused, found, Turned, stopped, went}
 
 -- what was written is within the buffer, since that is as long as before
 wrote-within : (l before after : List ℕ) (wrote : ℕ) → length after ≡ length before → Wrote l before after wrote → wrote ≤ length before

@@ -4,21 +4,22 @@ use mathlib.Core.List.{List, [], _∷_}
 use mathlib.Core.Bool.{Bool, true, false, _&&_}
 use Prim.Native.Nat.{ℕ}
 use lib.Dec.{eqb}
-use Rattle.words.specs.Integer.{signed, intAt}
-use Rattle.masks.specs.Rows.{between, cnt}
-use Rattle.assign.specs.Assignment.{allOnce}
+use Rattle.integers.specs.Integer.{signed, intAt}
+use Rattle.facts.specs.Counting.{between, cnt}
+use Rattle.blocks.specs.Assignment.{allOnce}
 use Rattle.template.specs.Template.{membersOfGroup, membersOfItem, membersOfItems, membersOf}
-use Rattle.template.specs.Record.{countFault, boundsFault, groupHead, head}
-use Rattle.template.specs.Leaf.{singleHead, rangeHead, leafHead}
-use Rattle.template.specs.Reading.{verdict, ended, uncounted, putFirst, thenMore, many, closed, tooDeep, opened, elem}
-use Rattle.template.specs.Whole.{mapRead, starHere, numbered, putMember, thenMembers, thenStar, putItem, thenItems, clashes, member, members, permutationHere, item, items, contents, bodyHere, templateHere, readTemplate}
-use Rattle.element.specs.Matches.{matchesBy, leafMatches}
-use Rattle.plan.specs.Members.{memberHits}
-use Rattle.matcher.specs.Obeys.{rightBytes, noneTwice, allSpare, withinBlock, starMet, groupTakes, itemTakes, someCut, cuts, bodyMet, lengthMet, obeysBy}
-use Rattle.matcher.specs.Search.{put, orElse, tryEach, firstOf, from, membersCount, firstWitness}
-use Rattle.matcher.specs.Answer.{written, matchRead, matchAnswer}
-use Rattle.intake_lines.specs.Line.{digitsBy, decimal, spaceThen, spaced, line}
-use Rattle.intake_lines.specs.Input.{recordFault, putInteger, integers, listFault, listHere, reached}
+use Rattle.elements.specs.Record.{countFault, boundsFault, groupHead, head}
+use Rattle.elements.specs.Leaf.{singleHead, rangeHead, leafHead}
+use Rattle.elements.specs.Read.{verdict, ended, mapRead}
+use Rattle.elements.specs.Reading.{uncounted, putFirst, thenMore, many, closed, tooDeep, opened, elem}
+use Rattle.template.specs.Whole.{starHere, numbered, putMember, thenMembers, thenStar, putItem, thenItems, clashes, member, members, permutationHere, item, items, contents, bodyHere, templateHere, readTemplate}
+use Rattle.elements.specs.Matches.{matchesBy, leafMatches}
+use Rattle.template.specs.Members.{memberHits}
+use Rattle.matching.specs.Obeys.{rightBytes, noneTwice, allSpare, withinBlock, starMet, groupTakes, itemTakes, someCut, cuts, bodyMet, lengthMet, obeysBy}
+use Rattle.matching.specs.Search.{put, orElse, tryEach, firstOf, from, membersCount, firstWitness}
+use Rattle.matching.specs.Answer.{written, matchRead, matchAnswer}
+use Rattle.lines.specs.Line.{digitsBy, decimal, spaceThen, spaced, line}
+use Rattle.stream.specs.Input.{recordFault, putInteger, integers, listFault, listHere, reached}
 use Rattle.intake_lines.specs.Output.{answered, listLine, turned, turn, follow, linesBy, linesFrom, started, output}
 
 data Row : Type 0 where

@@ -2,25 +2,27 @@
 -- Assumes nothing.
 use mathlib.Core.Path.{_≡_, refl, sym, ap, ap₂, _∙_}
 use mathlib.Core.Bool.{Bool}
-use mathlib.Core.List.{List, [], _∷_, _++_}
-use Prim.Native.Nat.{ℕ, _≤_}
+use mathlib.Core.List.{List, [], _∷_}
+use Prim.Native.Nat.{ℕ}
 use native.Mathlib.Omega.{arith}
-use lib.ListN.{length, drop, length-drop}
+use lib.ListN.{drop}
 use borrow.Fn.Kinds.{Dens, resT, endedOf}
 use contract.Lifetimes.{Lfts}
 use denote.Triple.Clauses.{AtExit}
-use Rattle.template.specs.Reading.{Read, refuse, got}
-use Rattle.intake_lines.specs.Line.{line}
-use Rattle.intake_lines.specs.Input.{reached}
+use Rattle.elements.specs.Read.{Read, refuse, got}
+use Rattle.lines.specs.Line.{line}
+use Rattle.lines.proofs.Unique.{same-bytes, same-count}
+use Rattle.stream.specs.Input.{reached}
+use Rattle.stream.proofs.Unique.{same-place}
 use Rattle.intake_lines.specs.Output.{Turn, stop, go}
-use Rattle.intake_lines.specs.Contract.{Wrote, Headed, refused, found, Turned, stopped, went}
-use Rattle.intake_lines.specs.declared.Turn.{Turn as TurnResult}
-use Rattle.intake_lines.proofs.header.Reads as header
-use Rattle.intake_lines.proofs.header.Kinds as header-kinds
-use Rattle.intake_lines.proofs.step.Reads as step
-use Rattle.intake_lines.proofs.step.Kinds as step-kinds
+use Rattle.intake_lines.specs.Contract.{Headed, refused, found, Turned, stopped, went}
+use Rattle.intake_lines.specs.declared.Progress.{Progress}
+use Rattle.intake_lines.proofs.open_input.Reads as open-input
+use Rattle.intake_lines.proofs.open_input.Kinds as open-input-kinds
+use Rattle.intake_lines.proofs.answer_next.Reads as answer-next
+use Rattle.intake_lines.proofs.answer_next.Kinds as answer-next-kinds
 
-abbrev made : ℕ → ℕ → Bool → TurnResult
+abbrev made : ℕ → ℕ → Bool → Progress
 made wrote next more = record { wrote = wrote; next = next; more = more }
 
 pub record Same (after after′ : List ℕ) (wrote wrote′ next next′ : ℕ) (more more′ : Bool) : Type 0 where
@@ -28,16 +30,6 @@ pub record Same (after after′ : List ℕ) (wrote wrote′ next next′ : ℕ) 
   pub count : wrote ≡ wrote′
   pub place : next ≡ next′
   pub again : more ≡ more′
-
-module _ (before after after′ : List ℕ) (wrote wrote′ : ℕ) where
-  same-bytes : (l l′ : List ℕ) → l ≡ l′ → Wrote l before after wrote → Wrote l′ before after′ wrote′ → after ≡ after′
-  same-bytes l l′ e w w′ = w .bytes ∙ ap (λ (b : List ℕ). b ++ drop (length b) before) e ∙ sym (w′ .bytes)
-
-  same-count : (l l′ : List ℕ) → l ≡ l′ → Wrote l before after wrote → Wrote l′ before after′ wrote′ → wrote ≡ wrote′
-  same-count l l′ e w w′ = w .count ∙ ap length e ∙ sym (w′ .count)
-
-same-place : (t : List ℕ) (n n′ : ℕ) → n ≤ length t → n′ ≤ length t → drop n t ≡ drop n′ t → n ≡ n′
-same-place t n n′ h h′ e = let d = ap length e in let l = length-drop n t in let l′ = length-drop n′ t in omega arith
 
 refused-found : (o : Read (List ℕ)) (r : ℕ) (t s : List ℕ) → o ≡ refuse r → o ≡ got t s → ⊥
 refused-found o r t s p q = let z : _≡_ {A = ℕ} 0 1 = cc in omega arith
@@ -91,14 +83,14 @@ module _ (u : Turn) (input : List ℕ) (at : ℕ) (before after after′ : List 
 made-same : (wrote wrote′ next next′ : ℕ) (more more′ : Bool) → wrote ≡ wrote′ → next ≡ next′ → more ≡ more′ → made wrote next more ≡ made wrote′ next′ more′
 made-same wrote wrote′ next next′ more more′ p q r = ap₂ (λ (w n : ℕ). made w n more) p q ∙ ap (λ (m : Bool). made wrote′ next′ m) r
 
-pub header-unique : (κs : Lfts 2) (a : Dens κs header-kinds.ps) (r r′ : resT header-kinds.r κs .Denot) (s s′ : AtExit (endedOf 2 header-kinds.ps header-kinds.r) κs)
-    → header.Post κs a r s → header.Post κs a r′ s′ → (r ≡ r′) × (s .1 .0 .now ≡ s′ .1 .0 .now)
-header-unique κs a r r′ s s′ p q =
+pub open-input-unique : (κs : Lfts 2) (a : Dens κs open-input-kinds.ps) (r r′ : resT open-input-kinds.r κs .Denot) (s s′ : AtExit (endedOf 2 open-input-kinds.ps open-input-kinds.r) κs)
+    → open-input.Post κs a r s → open-input.Post κs a r′ s′ → (r ≡ r′) × (s .1 .0 .now ≡ s′ .1 .0 .now)
+open-input-unique κs a r r′ s s′ p q =
     let u = headed-unique _ _ _ _ _ _ _ _ _ _ p q in
     (made-same _ _ _ _ _ _ (u .count) (u .place) (u .again), u .bytes)
 
-pub step-unique : (κs : Lfts 3) (a : Dens κs step-kinds.ps) (r r′ : resT step-kinds.r κs .Denot) (s s′ : AtExit (endedOf 3 step-kinds.ps step-kinds.r) κs)
-    → step.Post κs a r s → step.Post κs a r′ s′ → (r ≡ r′) × (s .1 .1 .1 .1 .0 .now ≡ s′ .1 .1 .1 .1 .0 .now)
-step-unique κs a r r′ s s′ p q =
+pub answer-next-unique : (κs : Lfts 3) (a : Dens κs answer-next-kinds.ps) (r r′ : resT answer-next-kinds.r κs .Denot) (s s′ : AtExit (endedOf 3 answer-next-kinds.ps answer-next-kinds.r) κs)
+    → answer-next.Post κs a r s → answer-next.Post κs a r′ s′ → (r ≡ r′) × (s .1 .1 .1 .1 .0 .now ≡ s′ .1 .1 .1 .1 .0 .now)
+answer-next-unique κs a r r′ s s′ p q =
     let u = turned-unique _ _ _ _ _ _ _ _ _ _ _ _ p q in
     (made-same _ _ _ _ _ _ (u .count) (u .place) (u .again), u .bytes)

@@ -1,9 +1,4 @@
 -- What the functions say. A place is an index into the bytes; what stands there is `drop place bytes`.
--- placed p bs o       == o with the bytes bs at the place p
--- LineFits number count o <-> the number has at most five digits, the list at most 32 elements, and the buffer o 256 bytes: no line is longer
--- Wrote l before after wrote <-> the bytes l were put in front of the lent buffer, and nothing else changed; `wrote` says how many
--- Listed t o code n next xs <-> what was read as o: its fault `code`, never 0; or `code` 0, its n integers in front of xs, and
---                        `next` the place after it
 -- RefusedBy s r       <-> r is the number for the whole input s: the refusal's, never 0; or 0 where the template is reached and accepted
 -- Headed s before after wrote next more <-> the refusal line of the whole input, and then `next` is 0 and `more` false; or nothing
 --                        was written, `more` is true, the template stands from 3 to `next`, and the lists from `next` on
@@ -13,30 +8,14 @@
 -- Assumes nothing: these are definitions.
 use mathlib.Core.Path.{_≡_}
 use mathlib.Core.Bool.{Bool, true, false}
-use mathlib.Core.List.{List, [], _∷_, _++_}
+use mathlib.Core.List.{List, [], _∷_}
 use Prim.Native.Nat.{ℕ, _+_, _-_, _≤_, _<_}
 use lib.ListN.{length, take, drop}
-use lib.IntN.{ℤ}
-use Rattle.template.specs.Reading.{Read, refuse, got}
-use Rattle.intake_lines.specs.Line.{line}
-use Rattle.intake_lines.specs.Input.{templateIn, afterTemplate, reached}
+use Rattle.elements.specs.Read.{refuse, got}
+use Rattle.lines.specs.Line.{line}
+use Rattle.lines.specs.Contract.{Wrote}
+use Rattle.stream.specs.Input.{templateIn, afterTemplate, reached}
 use Rattle.intake_lines.specs.Output.{Turn, stop, go}
-
-unfoldable pub placed : ℕ → List ℕ → List ℕ → List ℕ
-placed p bs o = take p o ++ (bs ++ drop (p + length bs) o)
-
-pub record LineFits (number count : ℕ) (o : List ℕ) : Type 0 where
-  pub number-short : number < 100000
-  pub count-short : count ≤ 32
-  pub room : 256 ≤ length o
-
-pub record Wrote (l before after : List ℕ) (wrote : ℕ) : Type 0 where
-  pub bytes : after ≡ l ++ drop (length l) before
-  pub count : wrote ≡ length l
-
-pub data Listed (t : List ℕ) (o : Read (List ℤ)) (code n next : ℕ) (xs : List ℤ) : Type 0 where
-  faulty : o ≡ refuse code → 0 < code → Listed t o code n next xs
-  read : o ≡ got (take n xs) (drop next t) → code ≡ 0 → n ≤ 32 → next ≤ length t → Listed t o code n next xs
 
 pub data RefusedBy (s : List ℕ) (r : ℕ) : Type 0 where
   rejected : reached s ≡ refuse r → 0 < r → RefusedBy s r

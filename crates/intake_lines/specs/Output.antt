@@ -18,10 +18,10 @@ use Prim.Native.Nat.{ℕ, zero, suc, _+_}
 use lib.Dec.{eqb}
 use lib.ListN.{length, take, replicate}
 use lib.IntN.{ℤ}
-use Rattle.template.specs.Reading.{Read, refuse, got}
-use Rattle.matcher.specs.Answer.{Given, given, matchAnswer}
-use Rattle.intake_lines.specs.Line.{line}
-use Rattle.intake_lines.specs.Input.{listHere, reached}
+use Rattle.elements.specs.Read.{Read, refuse, got}
+use Rattle.matching.specs.Answer.{Given, given, matchAnswer}
+use Rattle.lines.specs.Line.{line}
+use Rattle.stream.specs.Input.{listHere, reached}
 
 pub data Turn : Type 0 where
   stop : List ℕ → Turn

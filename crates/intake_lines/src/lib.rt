@@ -1,42 +1,31 @@
-// What the program prints, line by line: first the header, which is the refusal of the whole input or nothing, then a step for each list.
-mod line; // numbers in decimal, and a line of them
-mod list; // the lists of the input
-
-ghost use mathlib.Core.Path.{_≡_};
+// What the program prints, line by line: first the input is opened, which prints the refusal of the whole input or nothing, then each list is answered.
 ghost use Prim.Native.Nat.{_≤_};
 ghost use lib.ListN.{length, drop};
-ghost use Rattle.intake_lines.specs.Input.{afterTemplate};
-ghost use Rattle.intake_lines.specs.Output.{listLine, turn as turnAt};
-ghost use Rattle.intake_lines.specs.Contract.{LineFits, Wrote, RefusedBy, Headed, StepFits, Turned};
-use line::put_line;
-use list::read_list;
-use list::record_fault;
+ghost use Rattle.lines.specs.Contract.{LineFits, Wrote};
+ghost use Rattle.intake_lines.specs.Output.{listLine, turn};
+ghost use Rattle.intake_lines.specs.Contract.{RefusedBy, Headed, StepFits, Turned};
+use format::DONE;
+use format::INPUT_MOST;
+use format::MISSING;
+use format::TEMPLATE;
+use format::TEMPLATE_SIZE;
+use format::TOO_LONG;
+use lines::put_line;
 use matcher::match_list;
-use template::whole::scan_template;
-
-const TEMPLATE: u8 = 0x50;
-
-const TOO_LONG: u8 = 2;
-
-const MISSING: u8 = 3;
-
-// The place after the template.
-fn template_end(input: &[u8]) -> usize
-    requires { ⌜ 3 ≤ length (now input) ⌝ }
-    ensures { λ r. ⌜ r ≡ afterTemplate (now (input .entry)) ⌝ }
-{
-    3 + (input[1] as usize + input[2] as usize * 256)
-}
+use stream::read_list;
+use stream::record_fault;
+use stream::template_end;
+use template::scan_template;
 
 // The refusal of the whole input, or 0.
 fn refusal(input: &[u8]) -> u8
     ensures { λ r. ⌜ RefusedBy (now (input .entry)) r ⌝ }
 {
-    if 65536 < input.len() {
+    if INPUT_MOST < input.len() {
         return TOO_LONG;
     }
-    let code = record_fault(input, 0, TEMPLATE, 3);
-    if code != 0 {
+    let code = record_fault(input, 0, TEMPLATE, TEMPLATE_SIZE);
+    if code != DONE {
         return code;
     }
     let end = template_end(input);
@@ -46,28 +35,28 @@ fn refusal(input: &[u8]) -> u8
     scan_template(&input[3..end])
 }
 
-// What a turn gave: how many bytes it wrote, the place of the next list, and whether there is a next turn.
-pub struct Turn {
+// How far a call came: how many bytes it wrote, the place of the next list, and whether there is a next turn.
+pub struct Progress {
     pub wrote: usize,
     pub next: usize,
     pub more: bool,
 }
 
 // The line of a refused input, or the place of the first list: the template stands from 3 to there.
-pub fn header(input: &[u8], out: &mut [u8]) -> Turn
+pub fn open_input(input: &[u8], out: &mut [u8]) -> Progress
     requires { ⌜ 256 ≤ length (now out) ⌝ }
     ensures { λ r. ⌜ Headed (now (input .entry)) (now (out .entry)) (now (out .exit)) (r .wrote) (r .next) (r .more) ⌝ }
 {
     let code = refusal(input);
-    if code != 0 {
+    if code != DONE {
         let wrote = put_line(out, 0, code, 0, &input[..0]);
-        return Turn {
+        return Progress {
             wrote,
             next: 0,
             more: false,
         };
     }
-    Turn {
+    Progress {
         wrote: 0,
         next: template_end(input),
         more: true,
@@ -82,28 +71,34 @@ fn put_answer(template: &[u8], xs: &[i32], number: u32, out: &mut [u8]) -> usize
     let mut room = [0u8; 32];
     let answer = match_list(template, xs, &mut room);
     let n = xs.len();
-    if answer == 0 {
+    if answer == DONE {
         return put_line(out, number, 0, n, &room[..n]);
     }
     put_line(out, number, answer, n, &room[..0])
 }
 
 // One list, one line: the line of the list at `at`, which has this number, or of its fault; nothing where the input has ended.
-pub fn step(template: &[u8], input: &[u8], at: usize, number: u32, out: &mut [u8]) -> Turn
+pub fn answer_next(
+    template: &[u8],
+    input: &[u8],
+    at: usize,
+    number: u32,
+    out: &mut [u8],
+) -> Progress
     requires { ⌜ StepFits at number (now input) (now out) ⌝ }
-    ensures { λ r. ⌜ Turned (turnAt (now (template .entry)) number (drop at (now (input .entry)))) (now (input .entry)) at (now (out .entry)) (now (out .exit)) (r .wrote) (r .next) (r .more) ⌝ }
+    ensures { λ r. ⌜ Turned (turn (now (template .entry)) number (drop at (now (input .entry)))) (now (input .entry)) at (now (out .entry)) (now (out .exit)) (r .wrote) (r .next) (r .more) ⌝ }
 {
     if at == input.len() {
-        return Turn {
+        return Progress {
             wrote: 0,
             next: at,
             more: false,
         };
     }
     let list = read_list(input, at);
-    if list.code != 0 {
+    if list.code != DONE {
         let wrote = put_line(out, number, list.code, 0, &input[..0]);
-        return Turn {
+        return Progress {
             wrote,
             next: at,
             more: false,
@@ -112,7 +107,7 @@ pub fn step(template: &[u8], input: &[u8], at: usize, number: u32, out: &mut [u8
     let n = list.n;
     let xs = list.xs;
     let wrote = put_answer(template, &xs[..n], number, out);
-    Turn {
+    Progress {
         wrote,
         next: list.next,
         more: true,

@@ -5,7 +5,7 @@ use Prim.Native.Nat.{ℕ}
 use borrow.Fn.Kinds.{Dens, resT, endedOf}
 use contract.Lifetimes.{Lfts}
 use denote.Triple.Clauses.{AtExit}
-use Rattle.matcher.specs.Answer.{Given, given}
+use Rattle.matching.specs.Answer.{Given, given}
 use Rattle.matcher.proofs.length_met.Reads as length-met
 use Rattle.matcher.proofs.length_met.Kinds as length-met-kinds
 use Rattle.matcher.proofs.match_list.Reads as match-list

@@ -7,16 +7,16 @@
 -- Assumes nothing: these are definitions.
 use mathlib.Core.Path.{_≡_}
 use mathlib.Core.Bool.{Bool, true}
-use mathlib.Core.List.{List, [], _++_}
+use mathlib.Core.List.{List, _++_}
 use Prim.Native.Nat.{ℕ, _≤_}
 use lib.ListN.{length, take, drop}
 use lib.IntN.{ℤ}
-use Rattle.cuts.specs.Cut.{Best}
-use Rattle.template.specs.Leaf.{Leaf}
+use Rattle.blocks.specs.Pieces.{Best}
+use Rattle.elements.specs.Leaf.{Leaf}
 use Rattle.template.specs.Template.{Body, Length, Template, template}
-use Rattle.plan.specs.Contract.{Planned}
-use Rattle.plan.specs.declared.Plan.{Plan}
-use Rattle.matcher.specs.Obeys.{obeys}
+use Rattle.member_rows.specs.Contract.{Planned}
+use Rattle.member_rows.specs.declared.Plan.{Plan}
+use Rattle.matching.specs.Obeys.{obeys}
 
 pub record Ready (t : List ℕ) (p : Plan) (n : ℕ) : Type 0 where
   pub attribute : Length

@@ -4,31 +4,26 @@ ghost use mathlib.Core.Bool.{_&&_};
 ghost use Prim.Native.Nat.{_≤_};
 ghost use lib.Dec.{leb};
 ghost use lib.ListN.{length};
-ghost use Rattle.matcher.specs.Answer.{given, matchAnswer, judgeAnswer};
+ghost use Rattle.matching.specs.Answer.{given, matchAnswer, judgeAnswer};
 ghost use Rattle.matcher.specs.Contract.{Ready, FirstBy, PassedBy, Copied};
-use assign::Found;
+use blocks::Found;
 use cuts::first_cut;
-use cuts::first_filling;
-use passes::cut_passes;
-use passes::filling_passes;
-use plan::Plan;
-use plan::SUBSET;
-use plan::plan_of;
-use plan::rows_of;
-
-const MATCHED: u8 = 0;
-
-const NO_MATCH: u8 = 1;
-
-const TOO_LONG: u8 = 2;
-
-const LONG_LIST: u8 = 11;
-
-const SHORT_ROOM: u8 = 12;
-
-const OTHER_LENGTH: u8 = 13;
-
-const SPARE: u8 = 255;
+use fillings::first_filling;
+use format::DONE;
+use format::LIST_MOST;
+use format::LIST_TOO_LONG;
+use format::NO_MATCH;
+use format::OTHER_LENGTH;
+use format::ROOM_TOO_SHORT;
+use format::SPARE;
+use format::SUBSET;
+use format::TEMPLATE_MOST;
+use format::TOO_LONG;
+use judging::cut_passes;
+use judging::filling_passes;
+use member_rows::Plan;
+use member_rows::plan_of;
+use member_rows::rows_of;
 
 // Whether a list of n elements meets the length attribute.
 pub fn length_met(low: u8, high: u8, n: usize) -> bool
@@ -91,17 +86,17 @@ fn write_witness(w: [u8; 32], n: usize, room: &mut [u8])
 pub fn match_list(template: &[u8], list: &[i32], room: &mut [u8]) -> u8
     ensures { λ r. ⌜ given r (now (room .exit)) ≡ matchAnswer (now (template .entry)) (now (list .entry)) (now (room .entry)) ⌝ }
 {
-    if 4096 < template.len() {
+    if TEMPLATE_MOST < template.len() {
         return TOO_LONG;
     }
-    if 32 < list.len() {
-        return LONG_LIST;
+    if LIST_MOST < list.len() {
+        return LIST_TOO_LONG;
     }
     if room.len() < list.len() {
-        return SHORT_ROOM;
+        return ROOM_TOO_SHORT;
     }
     let p = plan_of(template);
-    if p.number != 0 {
+    if p.number != DONE {
         return p.number;
     }
     let f = first_witness(template, p, list);
@@ -110,28 +105,28 @@ pub fn match_list(template: &[u8], list: &[i32], room: &mut [u8]) -> u8
     }
     let w = f.w;
     write_witness(w, list.len(), room);
-    MATCHED
+    DONE
 }
 
 // Whether the offered witness obeys: 0 or 1, or the number of a refusal.
 pub fn judge(template: &[u8], list: &[i32], witness: &[u8]) -> u8
     ensures { λ r. ⌜ r ≡ judgeAnswer (now (template .entry)) (now (list .entry)) (now (witness .entry)) ⌝ }
 {
-    if 4096 < template.len() {
+    if TEMPLATE_MOST < template.len() {
         return TOO_LONG;
     }
-    if 32 < list.len() {
-        return LONG_LIST;
+    if LIST_MOST < list.len() {
+        return LIST_TOO_LONG;
     }
     if witness.len() != list.len() {
         return OTHER_LENGTH;
     }
     let q = plan_of(template);
-    if q.number != 0 {
+    if q.number != DONE {
         return q.number;
     }
     if witness_passes(template, q, list, witness) {
-        return MATCHED;
+        return DONE;
     }
     NO_MATCH
 }

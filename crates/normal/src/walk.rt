@@ -2,25 +2,22 @@
 ghost use mathlib.Core.List.{[], _∷_};
 ghost use Rattle.ranges.specs.Spans.{span};
 ghost use Rattle.normal.specs.Contract.{LeafHere, LeafSet, Here, SetHere, Members, SetAny};
+use format::ANY_SIZE;
+use format::COMPLEMENT;
+use format::GREATEST;
+use format::LEAST;
+use format::LIST;
+use format::RANGE;
+use format::RANGE_SIZE;
+use format::SINGLE;
+use format::SINGLE_SIZE;
+use integers::int_at;
 use ranges::Ranges;
 use ranges::append;
 use ranges::empty;
 use ranges::gaps;
 use ranges::one;
 use ranges::swept;
-use words::int_at;
-
-const SINGLE: u8 = 0x01;
-
-const RANGE: u8 = 0x02;
-
-const LIST: u8 = 0x04;
-
-const COMPLEMENT: u8 = 0x05;
-
-const LEAST: i32 = -2147483648;
-
-const MOST: i32 = 2147483647;
 
 // A set, and the place after the element template that it belongs to.
 pub struct Found {
@@ -46,7 +43,7 @@ fn leaf_at(t: &[u8], at: usize) -> Leaf
         return Leaf {
             lower: x,
             upper: x,
-            next: at + 5,
+            next: at + SINGLE_SIZE,
         };
     }
     if kind == RANGE {
@@ -55,13 +52,13 @@ fn leaf_at(t: &[u8], at: usize) -> Leaf
         return Leaf {
             lower,
             upper,
-            next: at + 9,
+            next: at + RANGE_SIZE,
         };
     }
     Leaf {
         lower: LEAST,
-        upper: MOST,
-        next: at + 1,
+        upper: GREATEST,
+        next: at + ANY_SIZE,
     }
 }
 

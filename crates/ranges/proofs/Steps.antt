@@ -11,12 +11,12 @@ use lib.Signed.{ltZ}
 use borrow.Author.Tests.{le-leb, lt-leb, eq-eqb, ne-eqb}
 use mir.Syntax.{w32}
 use mir.Val.{ofZ}
-use Rattle.words.specs.Integer.{Word}
-use Rattle.words.specs.Rank.{rank}
-use Rattle.words.proofs.Cases.{below}
-use Rattle.words.proofs.Ranks.{low, low-leZ}
+use Rattle.integers.specs.Integer.{Word}
+use Rattle.integers.specs.Rank.{rank}
+use Rattle.facts.proofs.Cases.{below}
+use Rattle.integers.proofs.Ranks.{low, low-leZ}
 use Rattle.ranges.specs.Spans.{Span, span, least, greatest, holds, Ascending, gapsFrom}
-use Rattle.ranges.proofs.Laws.{ranks, holds-ranks, words-of, to-ranked}
+use Rattle.ranges.proofs.JoinsAndGaps.{ranks, holds-ranks, words-of, to-ranked}
 use Rattle.ranges.proofs.Ranked as ranked
 
 -- ---- gaps
@@ -31,7 +31,7 @@ gaps-none m a b rs e = rw e
 
 pub gaps-last : (m : ℤ) → Word m → gapsFrom m [] ≡ span m greatest ∷ []
 unfolding gapsFrom
-gaps-last m p = rw (low-leZ m greatest (low m p) tt, le-leb (rank m) 4294967295 (omega (arith, Rattle.words.proofs.Ranks.rank-word m p)))
+gaps-last m p = rw (low-leZ m greatest (low m p) tt, le-leb (rank m) 4294967295 (omega (arith, Rattle.integers.proofs.Ranks.rank-word m p)))
 
 -- nothing lies above the greatest
 pub gaps-end : (rs : List Span) → ranked.From 4294967297 (ranks rs) → gapsFrom (greatest +ℤ pos 1) rs ≡ []

@@ -14,11 +14,12 @@ use native.Mathlib.Omega.{arith}
 use lib.Dec.{eqb}
 use lib.ListN.{length, getD}
 use borrow.Author.Tests.{eqb-true, eq-eqb}
-use Rattle.masks.specs.Rows.{cnt}
-use Rattle.masks.proofs.Lemmas.{same?, holds?, clash, between-in, hit, miss}
-use Rattle.assign.specs.Assignment.{takes, Assigns, Short}
-use Rattle.assign.proofs.Counting.{cnt-none, cnt-at}
-use Rattle.assign.proofs.Groups.{takes-spare, takes-member, short-never}
+use Rattle.facts.specs.Counting.{cnt}
+use Rattle.facts.proofs.Cases.{same?, holds?, clash, hit, miss}
+use Rattle.facts.proofs.Spans.{between-in}
+use Rattle.blocks.specs.Assignment.{takes, Assigns, Short}
+use Rattle.facts.proofs.Counting.{cnt-none, cnt-at}
+use Rattle.blocks.proofs.Assignments.{takes-spare, takes-member, short-never}
 use Rattle.reasons.specs.Reason.{ShortGroup, Chosen}
 
 -- ---- the last number of a set

@@ -13,15 +13,16 @@ use native.Mathlib.Omega.{arith}
 use lib.Dec.{eqb}
 use lib.ListN.{length, getD}
 use borrow.Author.Tests.{eq-eqb, ne-eqb}
-use Rattle.masks.specs.Rows.{oneIf, cnt, count, total, onlyIf, each, places}
-use Rattle.masks.proofs.Lemmas.{below?, holds?, clash, and-left, and-right, both, between-in, between-to}
+use Rattle.facts.specs.Counting.{oneIf, cnt, count, total, onlyIf, each, places}
+use Rattle.facts.proofs.Cases.{below, holds?, clash, and-left, and-right, both}
+use Rattle.facts.proofs.Spans.{between-in, between-to}
 use Rattle.assign.specs.Saturate.{fits, Partly}
 use Rattle.assign.specs.Widest.{Closed, Widest}
-use Rattle.assign.proofs.Counting.{count-le, count-less, double-count}
-use Rattle.assign.proofs.Deals.{within-may, within-piece, fits-block, fits-within}
+use Rattle.facts.proofs.Counting.{count-le, count-less, double-count}
+use Rattle.assign.proofs.AsThirtyTwoBytes.{within-may, within-piece, fits-block, fits-within}
 use Rattle.reasons.specs.Reason.{matched, sizeOf, Group, Most, Reason}
 use Rattle.reasons.specs.Grow.{Grown}
-use Rattle.reasons.proofs.Counts.{count-filled, places-in, places-on}
+use Rattle.facts.proofs.CountedSets.{count-filled, places-in, places-on}
 use Rattle.reasons.proofs.Groups.{met, met-in, met-low, met-inv}
 
 -- ---- a group's size: the places that it has, and its members that have none
@@ -144,7 +145,7 @@ module _ {ok : ℕ → ℕ → Bool} {k n : ℕ} {w : List ℕ} {U : ℕ → Boo
             (λ (s : H (getD w e 0) ≡ false). absurd (too-many e l met-e (λ y u. clash u s)))
             (holds? (H (getD w e 0))))
             (λ (z : 32 ≤ getD w e 0). absurd (too-many e l met-e (λ y u. omega arith)))
-            (below? (getD w e 0) 32);
+            (below (getD w e 0) 32);
       }
 
     pub closure-reason : ((C : ℕ → Bool) → Closed ok 0 k 0 n w C → ((v : ℕ) → U v ≡ true → C v ≡ true) → (v : ℕ) → G v ≡ true → C v ≡ true) → Reason ok k n G

@@ -10,12 +10,13 @@ use Prim.Native.Nat.{ℕ, zero, suc, _+_, _-_, _*_, _≤_, _<_}
 use native.Mathlib.Omega.{arith}
 use lib.Dec.{eqb}
 use borrow.Author.Tests.{eq-eqb, ne-eqb}
-use Rattle.masks.specs.Rows.{between}
-use Rattle.masks.proofs.Lemmas.{same?, below?, holds?, clash, not-so, and-left, and-right, both, one-of, or-left, or-right, between-in, between-to}
-use Rattle.assign.specs.Assignment.{wanted}
-use Rattle.assign.proofs.Groups.{want-in, want-inv}
+use Rattle.facts.specs.Counting.{between}
+use Rattle.facts.proofs.Cases.{same?, below, holds?, clash, not-so, and-left, and-right, both, one-of, or-left, or-right}
+use Rattle.facts.proofs.Spans.{between-in, between-to}
+use Rattle.blocks.specs.Assignment.{wanted}
+use Rattle.blocks.proofs.Assignments.{want-in, want-inv}
 use Rattle.reasons.specs.Reason.{matched, sizeOf, Group, NoLess, Most, ShortGroup, Reason, Given, aReason, noReason}
-use Rattle.reasons.proofs.Counts.{count-same, any-same, count-filled, count-bound, count-both, count-meet}
+use Rattle.facts.proofs.CountedSets.{count-same, any-same, count-filled, count-bound, count-both, count-meet}
 
 -- ---- what a group matches
 -- e is an element that at least one of the group G matches
@@ -104,7 +105,7 @@ module _ (f : (ℕ → Bool) → ℕ) (f-same : (G H : ℕ → Bool) → ((v : �
       ⊎-elim
       (λ (l : f (without .group) < f (with-it .group)). record { group = with-it .group; beyond = wider B j true with-it; best = λ H same. ⊎-elim (λ (a : f H ≤ f (with-it .group)). a) (λ (a : f H ≤ f (without .group)). omega arith) (either H same) })
       (λ (l : f (with-it .group) ≤ f (without .group)). record { group = without .group; beyond = wider B j false without; best = λ H same. ⊎-elim (λ (a : f H ≤ f (with-it .group)). omega arith) (λ (a : f H ≤ f (without .group)). a) (either H same) })
-      (below? (f (without .group)) (f (with-it .group)))
+      (below (f (without .group)) (f (with-it .group)))
 
 -- ---- there is a group of greatest shortfall that lies inside all the others
 module _ (ok : ℕ → ℕ → Bool) (k n : ℕ) (few : k ≤ 32) where
@@ -119,7 +120,7 @@ module _ (ok : ℕ → ℕ → Bool) (k n : ℕ) (few : k ≤ 32) where
   chosen = best-of rankOf rank-same k (λ v. false)
 
   chosen-inside : Group k (chosen .group)
-  chosen-inside v t = ⊎-elim (λ (l : v < k). l) (λ (l : k ≤ v). absurd (clash t (chosen .beyond v l))) (below? v k)
+  chosen-inside v t = ⊎-elim (λ (l : v < k). l) (λ (l : k ≤ v). absurd (clash t (chosen .beyond v l))) (below v k)
 
   outside : (H : ℕ → Bool) → Group k H → (v : ℕ) → k ≤ v → H v ≡ false
   outside H inside v l = not-so (H v) (λ t. let z = inside v t in omega arith)

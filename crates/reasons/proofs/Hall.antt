@@ -12,11 +12,11 @@ use native.Mathlib.Nat.{not-suc-le-zero}
 use native.Mathlib.Omega.{arith}
 use lib.Dec.{eqb}
 use borrow.Author.Tests.{eqb-true, eq-eqb, ne-eqb}
-use Rattle.masks.specs.Rows.{oneIf, count}
-use Rattle.masks.proofs.Lemmas.{same?, below?, holds?, clash, not-so, and-left, and-right, both, one-of, or-left, or-right}
-use Rattle.assign.proofs.Counting.{count-le, count-less}
+use Rattle.facts.specs.Counting.{oneIf, count}
+use Rattle.facts.proofs.Cases.{same?, below, holds?, clash, not-so, and-left, and-right, both, one-of, or-left, or-right}
+use Rattle.facts.proofs.Counting.{count-le, count-less}
 use Rattle.reasons.specs.Reason.{matched, sizeOf, Group, ShortGroup, Chosen}
-use Rattle.reasons.proofs.Counts.{count-none, count-both, count-meet, count-some, one-bound}
+use Rattle.facts.proofs.CountedSets.{count-none, count-both, count-meet, count-some, one-bound}
 use Rattle.reasons.proofs.Groups.{met, met-in, met-low, met-inv, reason-exists}
 use Rattle.reasons.proofs.Choices.{latest, latest-is}
 
@@ -83,7 +83,7 @@ enough? ok k n few =
     ⊎-elim
     (λ (l : matched ok n G < sizeOf G). inr (G, record { inside = m .inside; few = l }))
     (λ (l : sizeOf G ≤ matched ok n G). inl (λ H inside. let a = m .most H inside in omega arith))
-    (below? (matched ok n G) (sizeOf G))
+    (below (matched ok n G) (sizeOf G))
 
 -- ---- a relation less one pair
 abbrev without : (ℕ → ℕ → Bool) → ℕ → ℕ → ℕ → ℕ → Bool
@@ -208,7 +208,7 @@ single-next ok v i out s d e a b p q =
 -- one element more, and none before it is matched
 single-last : (ok : ℕ → ℕ → Bool) (v i : ℕ) → ((e : ℕ) → e < i → ok v e ≡ true → ⊥) → Single ok v (suc i)
 single-last ok v i none d e a b p q =
-    let at-end : (x : ℕ) → x < suc i → ok v x ≡ true → x ≡ i = λ x l o. ⊎-elim (λ (z : x < i). absurd (none x z o)) (λ (z : i ≤ x). omega arith) (below? x i) in
+    let at-end : (x : ℕ) → x < suc i → ok v x ≡ true → x ≡ i = λ x l o. ⊎-elim (λ (z : x < i). absurd (none x z o)) (λ (z : i ≤ x). omega arith) (below x i) in
     at-end d a p ∙ sym (at-end e b q)
 
 module _ (ok : ℕ → ℕ → Bool) (k n : ℕ) (few : k ≤ 32) where

@@ -11,11 +11,14 @@ use native.Mathlib.Omega.{arith}
 use lib.Dec.{lit<}
 use lib.Count.{ones, ones-step}
 use lib.ListN.{getD}
-use Rattle.masks.specs.Rows.{oneIf, bit, count, Plus, may}
-use Rattle.masks.proofs.Lemmas.{same?, below?, clash, hit, miss}
-use Rattle.masks.proofs.Masks.{bit-half, bit-low, bit-none, bit-past, row-may}
+use Rattle.facts.specs.Counting.{oneIf, count}
+use Rattle.masks.specs.Masks.{bit, Plus}
+use Rattle.rows.specs.Rows.{may}
+use Rattle.facts.proofs.Cases.{same?, below, clash, hit, miss}
+use Rattle.masks.proofs.Masks.{bit-half, bit-low, bit-none, bit-past}
+use Rattle.rows.proofs.Rows.{row-may}
 use Rattle.reasons.specs.Grow.{Meets}
-use Rattle.reasons.proofs.Counts.{count-same}
+use Rattle.facts.proofs.CountedSets.{count-same}
 use Rattle.reasons.proofs.Groups.{met, met-in, met-low, met-inv, same-test}
 
 one-low : (a : ℕ) → oneIf (bit a 0) ≡ a % 2
@@ -26,7 +29,7 @@ one-low a =
 
 -- a mask below 2 ^ d has no number from d on
 mask-low : (d a v : ℕ) → a < 2 ^ d → bit a v ≡ true → v < d
-mask-low d a v small t = ⊎-elim (λ (l : v < d). l) (λ (l : d ≤ v). absurd (clash t (subst (λ (x : ℕ). bit x v ≡ false) (mod-eq-of-lt small) (bit-past d a v l)))) (below? v d)
+mask-low d a v small t = ⊎-elim (λ (l : v < d). l) (λ (l : d ≤ v). absurd (clash t (subst (λ (x : ℕ). bit x v ≡ false) (mod-eq-of-lt small) (bit-past d a v l)))) (below v d)
 
 -- the lowest number apart
 count-low : (P : ℕ → Bool) (n : ℕ) → count P (suc n) ≡ oneIf (P 0) + count (λ v. P (suc v)) n
@@ -54,7 +57,7 @@ pub record Joining (rows : List ℕ) (group e r : ℕ) : Type 0 where
 module _ {rows : List ℕ} {group e r : ℕ} (j : Joining rows group e r) where
   pub joining-skip : Meets (getD rows e 0) group false → Joining rows group (e + 1) r
   joining-skip m = record {
-    right = λ i l t. j .right i (⊎-elim (λ (z : i < e). z) (λ (z : e ≤ i). absurd (clash t (j .beyond i z))) (below? i e)) t;
+    right = λ i l t. j .right i (⊎-elim (λ (z : i < e). z) (λ (z : e ≤ i). absurd (clash t (j .beyond i z))) (below i e)) t;
     all = λ i v l p q. ⊎-elim
         (λ (z : i ≡ e). absurd (m .none refl v (subst (λ (k : ℕ). bit (getD rows k 0) v ≡ true) z p) q))
         (λ (z : i ≡ e → ⊥). j .all i v (omega arith) p q)
@@ -82,7 +85,7 @@ joining-start = record { right = λ i l. absurd (omega arith); all = λ i v l. a
 pub joining-done : {rows : List ℕ} {group n r : ℕ} → group < 2 ^ 32 → Joining rows group n r → (e : ℕ) → bit r e ≡ met (may rows) n (bit group) e
 joining-done {rows} {group} {n} {r} small j e = same-test (bit r e) (met (may rows) n (bit group) e)
     (λ t.
-    let l : e < n = ⊎-elim (λ (z : e < n). z) (λ (z : n ≤ e). absurd (clash t (j .beyond e z))) (below? e n) in
+    let l : e < n = ⊎-elim (λ (z : e < n). z) (λ (z : n ≤ e). absurd (clash t (j .beyond e z))) (below e n) in
     let f = j .right e l t in
     met-in (may rows) n (bit group) (f .0) e l (mask-low 32 group (f .0) small (f .2)) (f .2) (sym (row-may rows (f .0) e) ∙ f .1))
     (λ t.

@@ -12,11 +12,14 @@ use lib.Bits.{bitAnd, and-le-l}
 use lib.Count.{trailingZeros}
 use lib.ListN.{getD}
 use borrow.Author.Tests.{eqb-true, eqb-false, eq-eqb, not-true, not-false}
-use Rattle.masks.specs.Rows.{oneIf, bit, count, Plus, may}
-use Rattle.masks.proofs.Lemmas.{same?, holds?, clash}
-use Rattle.masks.proofs.Masks.{bits-same, lowest-bit, and-bits, and-none, row-may}
-use Rattle.assign.proofs.Counting.{count-less}
-use Rattle.reasons.proofs.Counts.{one-bound, count-bound}
+use Rattle.facts.specs.Counting.{oneIf, count}
+use Rattle.masks.specs.Masks.{bit, Plus}
+use Rattle.rows.specs.Rows.{may}
+use Rattle.facts.proofs.Cases.{same?, holds?, clash}
+use Rattle.masks.proofs.Masks.{bits-same, lowest-bit, and-bits, and-none}
+use Rattle.rows.proofs.Rows.{row-may}
+use Rattle.facts.proofs.Counting.{count-less}
+use Rattle.facts.proofs.CountedSets.{one-bound, count-bound}
 use Rattle.reasons.specs.Grow.{Meets, HeldClosed, Swept}
 
 -- r is G and some of those who hold an element that one of r matches: all of them for the elements below e, where r is G

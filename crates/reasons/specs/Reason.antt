@@ -13,8 +13,9 @@
 use mathlib.Core.Path.{_≡_}
 use mathlib.Core.Bool.{Bool, true}
 use Prim.Native.Nat.{ℕ, _+_, _≤_, _<_}
-use Rattle.masks.specs.Rows.{bit, count}
-use Rattle.assign.specs.Assignment.{joined}
+use Rattle.masks.specs.Masks.{bit}
+use Rattle.facts.specs.Counting.{count}
+use Rattle.blocks.specs.Assignment.{joined}
 
 abbrev pub sizeOf : (ℕ → Bool) → ℕ
 sizeOf G = count G 32

@@ -4,13 +4,15 @@ ghost use mathlib.Core.Path.{_≡_};
 ghost use mathlib.Core.Bool.{_&&_};
 ghost use Prim.Native.Nat.{ℕ, _≤_};
 ghost use lib.Dec.{ltb};
-ghost use Rattle.masks.specs.Rows.{bit, may, between};
-ghost use Rattle.assign.specs.Assignment.{wanted};
+ghost use Rattle.masks.specs.Masks.{bit};
+ghost use Rattle.rows.specs.Rows.{may};
+ghost use Rattle.facts.specs.Counting.{between};
+ghost use Rattle.blocks.specs.Assignment.{wanted};
 ghost use Rattle.reasons.specs.Reason.{matched, sizeOf, Given};
 ghost use Rattle.reasons.specs.Grow.{Meets, Swept, Grown};
 use assign::widest_assignment;
-use columns::turned;
 use masks::with;
+use rows::turned;
 
 // Whether two sets have a number in common.
 fn meets(a: u32, b: u32) -> bool

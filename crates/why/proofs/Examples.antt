@@ -6,19 +6,21 @@ use Prim.Native.Nat.{ℕ, zero, suc, _+_, _^_}
 use lib.Dec.{eqb, leb, ltb}
 use lib.ListN.{length, replicate}
 use lib.IntN.{ℤ, pos}
-use Rattle.words.specs.Integer.{signed, intAt}
-use Rattle.masks.specs.Rows.{bit, between, cnt, count, anyBelow}
-use Rattle.assign.specs.Assignment.{allOnce, wanted}
+use Rattle.integers.specs.Integer.{signed, intAt}
+use Rattle.masks.specs.Masks.{bit}
+use Rattle.facts.specs.Counting.{between, cnt, count, anyBelow}
+use Rattle.blocks.specs.Assignment.{allOnce, wanted}
 use Rattle.template.specs.Template.{Template, membersOfGroup, membersOfItem, membersOfItems, membersOf}
-use Rattle.template.specs.Record.{countFault, boundsFault, groupHead, head}
-use Rattle.template.specs.Leaf.{Leaf, singleHead, rangeHead, leafHead}
-use Rattle.template.specs.Reading.{Read, refuse, got, ended, uncounted, putFirst, thenMore, many, closed, tooDeep, opened, elem}
-use Rattle.template.specs.Whole.{mapRead, starHere, numbered, putMember, thenMembers, thenStar, putItem, thenItems, clashes, member, members, permutationHere, item, items, contents, bodyHere, templateHere, readTemplate}
-use Rattle.element.specs.Matches.{matchesBy, leafMatches}
-use Rattle.plan.specs.Members.{memberHits}
-use Rattle.matcher.specs.Obeys.{rightBytes, noneTwice, allSpare, withinBlock, starMet, groupTakes, itemTakes, someCut, cuts, bodyMet, lengthMet, obeysBy}
-use Rattle.matcher.specs.Search.{put, orElse, tryEach, firstOf, from, membersCount, firstWitness}
-use Rattle.matcher.specs.Answer.{written, matchRead, matchAnswer}
+use Rattle.elements.specs.Record.{countFault, boundsFault, groupHead, head}
+use Rattle.elements.specs.Leaf.{Leaf, singleHead, rangeHead, leafHead}
+use Rattle.elements.specs.Read.{Read, refuse, got, ended, mapRead}
+use Rattle.elements.specs.Reading.{uncounted, putFirst, thenMore, many, closed, tooDeep, opened, elem}
+use Rattle.template.specs.Whole.{starHere, numbered, putMember, thenMembers, thenStar, putItem, thenItems, clashes, member, members, permutationHere, item, items, contents, bodyHere, templateHere, readTemplate}
+use Rattle.elements.specs.Matches.{matchesBy, leafMatches}
+use Rattle.template.specs.Members.{memberHits}
+use Rattle.matching.specs.Obeys.{rightBytes, noneTwice, allSpare, withinBlock, starMet, groupTakes, itemTakes, someCut, cuts, bodyMet, lengthMet, obeysBy}
+use Rattle.matching.specs.Search.{put, orElse, tryEach, firstOf, from, membersCount, firstWitness}
+use Rattle.matching.specs.Answer.{written, matchRead, matchAnswer}
 use Rattle.reasons.specs.Reason.{matched, sizeOf}
 use Rattle.why.specs.Why.{pairs, Asked, ofNothing, ofGroups, askedBy, askedOf, numberOf}
 

@@ -12,21 +12,21 @@ use lib.Dec.{eqb, leb}
 use lib.ListN.{length, getD, take}
 use lib.IntN.{ℤ, pos}
 use borrow.Author.Tests.{lt-ltb, eqb-true, eq-eqb}
-use Rattle.masks.specs.Rows.{may}
-use Rattle.masks.proofs.Lemmas.{clash, one-of, or-left, or-right}
-use Rattle.template.specs.Element.{Elem}
-use Rattle.template.specs.Leaf.{Leaf, leafHead}
+use Rattle.rows.specs.Rows.{may}
+use Rattle.facts.proofs.Cases.{clash, one-of, or-left, or-right}
+use Rattle.elements.specs.Element.{Elem}
+use Rattle.elements.specs.Leaf.{Leaf, leafHead}
 use Rattle.template.specs.Template.{Body, recordOf, setOf, superset, subset, Length, Template, template, membersOf}
-use Rattle.template.specs.Reading.{got}
+use Rattle.elements.specs.Read.{got}
 use Rattle.template.specs.Whole.{readTemplate}
 use Rattle.template.specs.Blocks.{bodyKind, Standing}
-use Rattle.element.specs.Matches.{matches}
-use Rattle.plan.specs.Members.{memberHits}
-use Rattle.plan.specs.Contract.{Planned, PlanOf, noPlan, aPlan, RowsOf}
-use Rattle.plan.specs.declared.Plan.{Plan}
-use Rattle.matcher.specs.Obeys.{lengthMet}
-use Rattle.matcher.specs.Claims.{Taken}
-use Rattle.matcher.proofs.Entries.{length-by}
+use Rattle.elements.specs.Matches.{matches}
+use Rattle.template.specs.Members.{memberHits}
+use Rattle.member_rows.specs.Contract.{Planned, PlanOf, noPlan, aPlan, RowsOf}
+use Rattle.member_rows.specs.declared.Plan.{Plan}
+use Rattle.matching.specs.Obeys.{lengthMet}
+use Rattle.matching.specs.Answer.{Taken}
+use Rattle.matcher.proofs.ByPlan.{length-by}
 use Rattle.reasons.specs.Reason.{Given}
 use Rattle.reasons.proofs.Groups.{given-agree}
 use Rattle.why.specs.Why.{pairs, ofNothing, askedBy, askedOf}

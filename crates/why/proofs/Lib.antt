@@ -1,13 +1,11 @@
 -- What the proofs of the functions use, and what other crates cite.
 -- Examples == which group is given in examples, computed
 -- Obeyed   == what obeys a superset or a subset, and groups
--- Whys     == the matcher's number and the group together
+-- NumberAndGroup == the matcher's number and the group together
 -- Grouping == from the plan to the group
--- Claims   == the claims of specs/Claims.antt
 -- Unique   == the promise allows one result only
 mod Examples
 pub mod Obeyed
-pub mod Whys
+pub mod NumberAndGroup
 pub mod Grouping
-pub mod Claims
 pub mod Unique

@@ -14,28 +14,26 @@ use native.Mathlib.Omega.{arith}
 use lib.ListN.{length, getD}
 use lib.IntN.{ℤ, pos}
 use borrow.Author.Tests.{lt-ltb}
-use Rattle.words.proofs.Cases.{by-test}
-use Rattle.masks.proofs.Lemmas.{same?, below?, and-left}
-use Rattle.assign.specs.Assignment.{Assigns, allRight, allOnce, assigns}
-use Rattle.assign.proofs.Assignments.{assigns-test}
-use Rattle.assign.proofs.Counting.{cnt-two}
-use Rattle.assign.proofs.Groups.{short-never}
-use Rattle.cuts.specs.Cut.{Cuts, Fills}
-use Rattle.template.specs.Element.{Elem}
-use Rattle.template.specs.Leaf.{Leaf}
+use Rattle.facts.proofs.Cases.{by-test, same?, below, and-left}
+use Rattle.blocks.specs.Assignment.{Assigns, allRight, allOnce, assigns}
+use Rattle.blocks.proofs.Assignments.{assigns-test, short-never}
+use Rattle.facts.proofs.Counting.{cnt-two}
+use Rattle.blocks.specs.Pieces.{Cuts, Fills}
+use Rattle.elements.specs.Element.{Elem}
+use Rattle.elements.specs.Leaf.{Leaf}
 use Rattle.template.specs.Template.{Body, recordOf, setOf, superset, subset, Length, Template, template, membersOf}
 use Rattle.template.specs.Blocks.{blocksOf}
-use Rattle.element.specs.Matches.{matches}
-use Rattle.plan.specs.Members.{memberHits}
-use Rattle.matcher.specs.Obeys.{lengthMet, obeys}
-use Rattle.matcher.specs.Search.{membersCount}
-use Rattle.matcher.proofs.Pieces.{right-split, length-once}
-use Rattle.matcher.proofs.Bodies.{Agree, ByBlocks, whole-cut, obeys-says, obeys-test}
-use Rattle.matcher.proofs.Entries.{agree-from}
+use Rattle.elements.specs.Matches.{matches}
+use Rattle.template.specs.Members.{memberHits}
+use Rattle.matching.specs.Obeys.{lengthMet, obeys}
+use Rattle.matching.specs.Search.{membersCount}
+use Rattle.matching.proofs.ItemsAsBlocks.{right-split, length-once}
+use Rattle.matching.proofs.RulesByBlocks.{Agree, ByBlocks, whole-cut, obeys-says, obeys-test}
+use Rattle.matcher.proofs.ByPlan.{agree-from}
 use Rattle.reasons.specs.Reason.{ShortGroup, Chosen}
 use Rattle.reasons.proofs.Choices.{listed, listed-size, listed-at, listed-once, chosen-assigns, group-short, chosen-never}
 use Rattle.why.specs.Why.{pairs, Asked, ofNothing, ofGroups, askedBy, askedOf}
-use Rattle.why.specs.Claims.{Explained, aSuperset, aSubset}
+use Rattle.why.specs.Unmatched.{Explained, aSuperset, aSubset}
 
 pub pairs-agree : (es : List (Elem Leaf)) (xs : List ℤ) → Agree matches es 0 xs (pairs es xs)
 unfolding pairs
@@ -64,7 +62,7 @@ module _ (es : List (Elem Leaf)) (ok : ℕ → ℕ → Bool) (n : ℕ) (few : le
     apart = λ i j a b q. ⊎-elim
         (λ (l : i < j). absurd (twice i j l b q))
         (λ (l : j ≤ i). ⊎-elim (λ (s : i ≡ j). s) (λ (s : i ≡ j → ⊥). absurd (twice j i (omega arith) a (sym q))) (same? i j))
-        (below? i j);
+        (below i j);
   }
     where
       twice : (i j : ℕ) → i < j → j < n → getD w i 0 ≡ getD w j 0 → ⊥

@@ -5,7 +5,7 @@ use borrow.Fn.Kinds.{Dens, resT, endedOf}
 use contract.Lifetimes.{Lfts}
 use denote.Triple.Clauses.{AtExit}
 use Rattle.why.specs.declared.Why.{Why}
-use Rattle.why.proofs.Whys.{one-number, one-group}
+use Rattle.why.proofs.NumberAndGroup.{one-number, one-group}
 use Rattle.why.proofs.why_not.Reads as why-not
 use Rattle.why.proofs.why_not.Kinds as why-not-kinds
 

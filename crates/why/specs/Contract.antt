@@ -6,11 +6,11 @@ use mathlib.Core.Path.{_≡_}
 use mathlib.Core.List.{List, []}
 use Prim.Native.Nat.{ℕ}
 use lib.IntN.{ℤ}
-use Rattle.template.specs.Leaf.{Leaf, leafHead}
+use Rattle.elements.specs.Leaf.{Leaf, leafHead}
 use Rattle.template.specs.Template.{Template}
-use Rattle.template.specs.Reading.{got}
+use Rattle.elements.specs.Read.{got}
 use Rattle.template.specs.Whole.{readTemplate}
-use Rattle.matcher.specs.Claims.{Taken}
+use Rattle.matching.specs.Answer.{Taken}
 use Rattle.reasons.specs.Reason.{Given}
 use Rattle.why.specs.Why.{Asked, ofNothing, ofGroups, askedOf}
 

@@ -17,16 +17,16 @@ use Prim.Native.Nat.{ℕ, _≤_}
 use lib.Dec.{ltb}
 use lib.ListN.{length, getD}
 use lib.IntN.{ℤ, pos}
-use Rattle.masks.specs.Rows.{bit}
-use Rattle.template.specs.Element.{Elem}
-use Rattle.template.specs.Leaf.{Leaf, leafHead}
+use Rattle.masks.specs.Masks.{bit}
+use Rattle.elements.specs.Element.{Elem}
+use Rattle.elements.specs.Leaf.{Leaf, leafHead}
 use Rattle.template.specs.Template.{Body, recordOf, setOf, superset, subset, Template, template}
-use Rattle.template.specs.Reading.{Read, refuse, got}
+use Rattle.elements.specs.Read.{Read, refuse, got}
 use Rattle.template.specs.Whole.{readTemplate}
-use Rattle.element.specs.Matches.{matches}
-use Rattle.plan.specs.Members.{memberHits}
-use Rattle.matcher.specs.Obeys.{lengthMet}
-use Rattle.matcher.specs.Answer.{Given, given, matchAnswer}
+use Rattle.elements.specs.Matches.{matches}
+use Rattle.template.specs.Members.{memberHits}
+use Rattle.matching.specs.Obeys.{lengthMet}
+use Rattle.matching.specs.Answer.{Given, given, matchAnswer}
 use Rattle.reasons.specs.Reason.{ShortGroup, Reason}
 
 unfoldable pub pairs : List (Elem Leaf) → List ℤ → ℕ → ℕ → Bool

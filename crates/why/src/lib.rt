@@ -4,16 +4,18 @@ ghost use mathlib.Core.Bool.{_||_};
 ghost use lib.Dec.{eqb};
 ghost use Rattle.why.specs.Why.{WhyOf};
 ghost use Rattle.why.specs.Contract.{GroupFor};
+use format::DONE;
+use format::LIST_MOST;
+use format::NO_MATCH;
+use format::SUBSET;
+use format::SUPERSET;
+use format::TEMPLATE_MOST;
 use matcher::length_met;
 use matcher::match_list;
-use plan::SUBSET;
-use plan::SUPERSET;
-use plan::plan_of;
-use plan::rows_of;
+use member_rows::plan_of;
+use member_rows::rows_of;
 use reasons::exchanged_reason;
 use reasons::reason;
-
-const NO_MATCH: u8 = 1;
 
 // The matcher's number; and the group as a mask, of a superset bit m for member m, of a subset bit e for element e, 0 where none is given.
 pub struct Why {
@@ -32,14 +34,14 @@ fn is_explained(kind: u8) -> bool
 fn group_of(template: &[u8], list: &[i32]) -> u32
     ensures { λ r. ⌜ GroupFor (now (template .entry)) (now (list .entry)) r ⌝ }
 {
-    if 4096 < template.len() {
+    if TEMPLATE_MOST < template.len() {
         return 0;
     }
-    if 32 < list.len() {
+    if LIST_MOST < list.len() {
         return 0;
     }
     let p = plan_of(template);
-    if p.number != 0 {
+    if p.number != DONE {
         return 0;
     }
     if !length_met(p.low, p.high, list.len()) {

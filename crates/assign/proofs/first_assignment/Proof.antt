@@ -3,13 +3,14 @@
 use mathlib.Core.Path.{sym, subst}
 use mathlib.Core.Bool.{Bool}
 use borrow.Author.Tests.{not-true, not-false}
-use Rattle.masks.specs.Rows.{may, picks}
-use Rattle.assign.specs.Assignment.{Answer}
+use Rattle.rows.specs.Rows.{may, picks}
+use Rattle.assign.specs.Answer.{Answer}
 use Rattle.assign.specs.Saturate.{Saturated}
-use Rattle.assign.proofs.Pieces.{answer-found, answer-none}
-use Rattle.assign.proofs.Deals.{partly-same}
-use Rattle.assign.proofs.Quicks.{greedy-done}
-use Rattle.assign.proofs.Assignments.{answer-same, turned-same}
+use Rattle.assign.proofs.PieceOfBytes.{answer-found, answer-none}
+use Rattle.assign.proofs.AsThirtyTwoBytes.{partly-same}
+use Rattle.assign.proofs.LeastFree.{greedy-done}
+use Rattle.assign.proofs.SameRelation.{answer-same}
+use Rattle.rows.proofs.Rows.{turned-says}
 use Rattle.assign.proofs.first_assignment.Statement.{statement}
 use Rattle.assign.proofs.first_assignment.Tie as tie
 
@@ -35,7 +36,7 @@ saturated : (c : tie.After-saturate) → let a = c .before .before .before .befo
 saturated c =
     let turning = c .before .before in
     let called = turning .before .before .before .before in
-    c .saturate .ensures _ _ (called .before .pre .0) (partly-same (called .quick .ensures .partly) (turned-same (turning .turned .ensures)))
+    c .saturate .ensures _ _ (called .before .pre .0) (partly-same (called .quick .ensures .partly) (turned-says (turning .turned .ensures)))
 
 -- a group is short
 returns-2 : tie.Need-returns-2
@@ -47,7 +48,7 @@ returns-2 c =
     let p = start .pre in
     let s = saturated called in
     subst (λ (t : Bool). Answer (may (a .rows .now)) (a .first) (a .k) (a .from) (a .to) t (called .saturate .result .w)) (sym f)
-    (answer-same (turned-same (called .before .before .turned .ensures)) (answer-none (p .0) (p .1) (p .2) (s .blank f) (s .short f)))
+    (answer-same (turned-says (called .before .before .turned .ensures)) (answer-none (p .0) (p .1) (p .2) (s .blank f) (s .short f)))
 
 refine-requires : tie.Need-refine-requires
 refine-requires c κs = let p = c .before .before .before .before .before .before .before .before .before .before .before .pre in (p .1, p .2)
@@ -59,7 +60,7 @@ returns-3 c =
     let turning = called .before .before in
     let p = turning .before .before .before .before .before .pre in
     let dealt = saturated called .dealt (not-false _ (else2 .if2 .left)) in
-    answer-same (turned-same (turning .turned .ensures)) (answer-found (p .0) (p .1) (p .2) (c .refine .ensures _ _ (p .0) dealt))
+    answer-same (turned-says (turning .turned .ensures)) (answer-found (p .0) (p .1) (p .2) (c .refine .ensures _ _ (p .0) dealt))
 
 pub first-assignment-spec : {M : Type 1} → statement M
 first-assignment-spec = tie.close (tie.spec quick-requires returns turned-requires saturate-requires returns-2 refine-requires returns-3)

@@ -2,10 +2,10 @@
 -- Assumes nothing.
 use native.Mathlib.Omega.{arith}
 use borrow.Author.Needs.{needs}
-use Rattle.masks.proofs.Lemmas.{between-to}
-use Rattle.assign.proofs.Deals.{partly-same}
-use Rattle.assign.proofs.Assignments.{turned-same}
-use Rattle.assign.proofs.Wides.{widest-same}
+use Rattle.facts.proofs.Spans.{between-to}
+use Rattle.assign.proofs.AsThirtyTwoBytes.{partly-same}
+use Rattle.rows.proofs.Rows.{turned-says}
+use Rattle.assign.proofs.AsManyAsCan.{widest-same}
 use Rattle.assign.proofs.widest_assignment.Statement.{statement}
 use Rattle.assign.proofs.widest_assignment.Tie as tie
 
@@ -24,7 +24,7 @@ returns : tie.Need-returns
 returns c =
     let turning = c .before .before .before in
     let called = turning .before in
-    let same = turned-same (turning .turned .ensures) in
+    let same = turned-says (turning .turned .ensures) in
     widest-same same (c .serve-all .ensures _ _ (omega (arith, called .before .pre .0)) (partly-same (called .quick .ensures .partly) same))
 
 pub widest-assignment-spec : {M : Type 1} → statement M

@@ -5,12 +5,13 @@ use Prim.Native.Nat.{_-_, _≤_, _<_}
 use native.Mathlib.Omega.{arith}
 use lib.ListN.{length, take, drop}
 use borrow.Author.Needs.{needs}
-use Rattle.masks.specs.Rows.{may}
+use Rattle.rows.specs.Rows.{may}
 use Rattle.blocks.specs.declared.Block.{Block}
 use Rattle.cuts.specs.declared.Suffix.{Suffix}
-use Rattle.cuts.specs.Cut.{Cuts}
+use Rattle.blocks.specs.Pieces.{Cuts}
 use Rattle.cuts.specs.Table.{Given, Tabled, shortest, longest, together}
-use Rattle.cuts.proofs.Tables.{together-more, together-none, cut-start, cut-step, cut-inside, cut-end}
+use Rattle.cuts.proofs.Tables.{together-more, together-none, cut-start, cut-step, cut-end}
+use Rattle.blocks.proofs.Cutting.{cut-inside}
 use Rattle.cuts.proofs.first_cut.Statement.{statement}
 use Rattle.cuts.proofs.first_cut.Tie as tie
 use Rattle.cuts.proofs.first_cut.Reads as reads
@@ -94,7 +95,7 @@ prepend-requires c κs =
     let a = l .before .before .before .args in
     let p = l .before .before .before .pre in
     let i = l .loop .inv in
-    (cut-inside (may (a .rows .now)) (a .t2) (a .count) (a .n) (i .0) (p .0) _ _ (omega arith) (p .2), p .1, i .4 .size)
+    (cut-inside (a .t2) (a .count) (i .0) (p .0) _ _ (omega arith) (p .2), p .1, i .4 .size)
 
 loop-less : tie.Need-loop-less Inv-loop μ-loop
 loop-less c = omega arith

@@ -1,4 +1,4 @@
--- `intake::print_all` is safe and ends: the header's line is within the buffer, and the template within the input. Assumes nothing.
+-- `intake::print_all` is safe and ends: the line of a refusal is within the buffer, and the template within the input. Assumes nothing.
 use mathlib.Core.Path.{sym}
 use Prim.Native.Nat.{_≤_}
 use native.Mathlib.Omega.{arith}
@@ -10,19 +10,19 @@ use borrow.Author.Needs.{needs}
 use Rattle.intake.proofs.print_all.Statement.{statement}
 use Rattle.intake.proofs.print_all.Tie as tie
 
-line-within : (c : tie.After-header) → c .header .result .wrote ≤ length (c .header .last .1 .0)
-line-within c = let same = c .header .kept .1 .0 in let w = headed-within _ _ _ _ _ _ (c .header .ensures) same in omega arith
+line-within : (c : tie.After-open-input) → c .open-input .result .wrote ≤ length (c .open-input .last .1 .0)
+line-within c = let same = c .open-input .kept .1 .0 in let w = headed-within _ _ _ _ _ _ (c .open-input .ensures) same in omega arith
 
-header-requires : tie.Need-header-requires
-header-requires c κs = search needs
+open-input-requires : tie.Need-open-input-requires
+open-input-requires c κs = search needs
 
 slice-reshare-prefix-write-all : tie.Need-slice-reshare-prefix-write-all
 slice-reshare-prefix-write-all c = line-within (c .before .before .before .before)
 
 slice-aggregate-write-all : tie.Need-slice-aggregate-write-all
 slice-aggregate-write-all c =
-    let at-header = c .before .before .before .before .before in
-    sym (length-take-le (at-header .header .result .wrote) (at-header .header .last .1 .0) (line-within at-header))
+    let at-open-input = c .before .before .before .before .before in
+    sym (length-take-le (at-open-input .open-input .result .wrote) (at-open-input .open-input .last .1 .0) (line-within at-open-input))
 
 write-all-requires : tie.Need-write-all-requires
 write-all-requires c κs = search needs
@@ -34,20 +34,20 @@ returns : tie.Need-returns
 returns c = search needs
 
 sub-print-lists : tie.Need-sub-print-lists
-sub-print-lists c = headed-from _ _ _ _ _ _ (c .before .before .before .before .header .ensures) (not-false _ (c .if1 .left))
+sub-print-lists c = headed-from _ _ _ _ _ _ (c .before .before .before .before .open-input .ensures) (not-false _ (c .if1 .left))
 
 part-print-lists-start : tie.Need-part-print-lists-start
-part-print-lists-start c = headed-from _ _ _ _ _ _ (c .before .before .before .before .header .ensures) (not-false _ (c .if1 .left))
+part-print-lists-start c = headed-from _ _ _ _ _ _ (c .before .before .before .before .open-input .ensures) (not-false _ (c .if1 .left))
 
 part-print-lists-end : tie.Need-part-print-lists-end
-part-print-lists-end c = headed-to _ _ _ _ _ _ (c .before .before .before .before .header .ensures) (not-false _ (c .if1 .left))
+part-print-lists-end c = headed-to _ _ _ _ _ _ (c .before .before .before .before .open-input .ensures) (not-false _ (c .if1 .left))
 
 print-lists-requires : tie.Need-print-lists-requires
 print-lists-requires c κs =
     let at-if1 = c .before .before in
-    let at-header = at-if1 .before .before .before .before in
-    let start = at-header .before .before .before .before in
-    (headed-to _ _ _ _ _ _ (at-header .header .ensures) (not-false _ (at-if1 .if1 .left)), start .pre .0, let same = at-header .header .kept .1 .0 in omega (arith, start .pre .1))
+    let at-open-input = at-if1 .before .before .before .before in
+    let start = at-open-input .before .before .before .before in
+    (headed-to _ _ _ _ _ _ (at-open-input .open-input .ensures) (not-false _ (at-if1 .if1 .left)), start .pre .0, let same = at-open-input .open-input .kept .1 .0 in omega (arith, start .pre .1))
 
 same-length-2 : tie.Need-same-length-2
 same-length-2 c = search needs
@@ -59,7 +59,7 @@ pub print-all-spec : {M : Type 1} → statement M
 print-all-spec =
     tie.close
     (tie.spec
-    header-requires
+    open-input-requires
     slice-reshare-prefix-write-all
     slice-aggregate-write-all
     write-all-requires

@@ -31,53 +31,53 @@ abbrev μ-loop : tie.MeasureT-loop
 loop-holds : tie.Need-loop-holds Inv-loop μ-loop
 loop-holds c = record { inside = c .before .before .before .pre .0; few = omega arith; room = omega (arith, c .before .before .before .pre .2); same = refl }
 
-sub-step : tie.Need-sub-step Inv-loop μ-loop
-sub-step c = omega (arith, c .loop .inv .room)
+sub-answer-next : tie.Need-sub-answer-next Inv-loop μ-loop
+sub-answer-next c = omega (arith, c .loop .inv .room)
 
-part-step-start : tie.Need-part-step-start Inv-loop μ-loop
-part-step-start c = omega (arith, c .loop .inv .room)
+part-answer-next-start : tie.Need-part-answer-next-start Inv-loop μ-loop
+part-answer-next-start c = omega (arith, c .loop .inv .room)
 
-part-step-end : tie.Need-part-step-end Inv-loop μ-loop
-part-step-end c = omega (arith, c .loop .inv .room)
+part-answer-next-end : tie.Need-part-answer-next-end Inv-loop μ-loop
+part-answer-next-end c = omega (arith, c .loop .inv .room)
 
-step-requires : tie.Need-step-requires Inv-loop μ-loop
-step-requires c κs =
+answer-next-requires : tie.Need-answer-next-requires Inv-loop μ-loop
+answer-next-requires c κs =
     let start = c .before .before .before .before .before in
     let p = part-length (c .before .loop .out) (c .before .loop .filled) (omega (arith, c .before .loop .inv .room)) in
     record { inside = c .before .loop .inv .inside; number-short = omega (arith, c .before .loop .inv .few, c .before .loop .inv .inside, start .pre .1); room = omega (arith, c .before .loop .inv .room) }
 
-abbrev Buffer : tie.After-step Inv-loop μ-loop → List ℕ
-Buffer c = putMid (c .before .before .loop .filled) (length (c .before .before .loop .out) - c .before .before .loop .filled) (c .before .before .loop .out) (c .step .last .1 .1 .1 .1 .0)
+abbrev Buffer : tie.After-answer-next Inv-loop μ-loop → List ℕ
+Buffer c = putMid (c .before .before .loop .filled) (length (c .before .before .loop .out) - c .before .before .loop .filled) (c .before .before .loop .out) (c .answer-next .last .1 .1 .1 .1 .0)
 
--- the buffer after a step is as long as before, and what is collected is within it
-as-long : (c : tie.After-step Inv-loop μ-loop) → length (Buffer c) ≡ length (c .before .before .loop .out)
-as-long c = same-len-mid (c .before .before .loop .filled) (length (c .before .before .loop .out) - c .before .before .loop .filled) (c .before .before .loop .out) (c .step .last .1 .1 .1 .1 .0) (c .step .kept .1 .1 .1 .1 .0)
+-- the buffer after a call is as long as before, and what is collected is within it
+as-long : (c : tie.After-answer-next Inv-loop μ-loop) → length (Buffer c) ≡ length (c .before .before .loop .out)
+as-long c = same-len-mid (c .before .before .loop .filled) (length (c .before .before .loop .out) - c .before .before .loop .filled) (c .before .before .loop .out) (c .answer-next .last .1 .1 .1 .1 .0) (c .answer-next .kept .1 .1 .1 .1 .0)
 
-end-within : (c : tie.After-step Inv-loop μ-loop) → c .before .before .loop .filled + c .step .result .wrote ≤ length (c .before .before .loop .out)
+end-within : (c : tie.After-answer-next Inv-loop μ-loop) → c .before .before .loop .filled + c .answer-next .result .wrote ≤ length (c .before .before .loop .out)
 end-within c =
     let room = c .before .before .loop .inv .room in
     let p = part-length (c .before .before .loop .out) (c .before .before .loop .filled) (omega arith) in
-    let w = turned-within _ _ _ _ _ _ _ _ (c .step .ensures) (c .step .kept .1 .1 .1 .1 .0) in
+    let w = turned-within _ _ _ _ _ _ _ _ (c .answer-next .ensures) (c .answer-next .kept .1 .1 .1 .1 .0) in
     omega arith
 
-end-inside : (c : tie.After-step Inv-loop μ-loop) → c .before .before .loop .filled + c .step .result .wrote ≤ length (Buffer c)
-end-inside c = subst (λ (n : ℕ). c .before .before .loop .filled + c .step .result .wrote ≤ n) (sym (as-long c)) (end-within c)
+end-inside : (c : tie.After-answer-next Inv-loop μ-loop) → c .before .before .loop .filled + c .answer-next .result .wrote ≤ length (Buffer c)
+end-inside c = subst (λ (n : ℕ). c .before .before .loop .filled + c .answer-next .result .wrote ≤ n) (sym (as-long c)) (end-within c)
 
 add-end : tie.Need-add-end Inv-loop μ-loop
 add-end c =
-    let at-step = c .before .before .before in
-    let at-loop = at-step .before .before in
+    let at-answer-next = c .before .before .before in
+    let at-loop = at-answer-next .before .before in
     let start = at-loop .before .before .before .before in
-    let w = end-within at-step in let s = at-loop .loop .inv .same in let l : length (start .args .out .now) < 9223372036854775808 = search needs in omega arith
+    let w = end-within at-answer-next in let s = at-loop .loop .inv .same in let l : length (start .args .out .now) < 9223372036854775808 = search needs in omega arith
 
 slice-reshare-prefix-write-all : tie.Need-slice-reshare-prefix-write-all Inv-loop μ-loop
 slice-reshare-prefix-write-all c = end-inside (c .before .before .before .before .before)
 
 slice-aggregate-write-all : tie.Need-slice-aggregate-write-all Inv-loop μ-loop
 slice-aggregate-write-all c =
-    let at-step = c .before .before .before .before .before .before in
-    let at-loop = at-step .before .before in
-    sym (length-take-le (at-loop .loop .filled + at-step .step .result .wrote) (Buffer at-step) (end-inside at-step))
+    let at-answer-next = c .before .before .before .before .before .before in
+    let at-loop = at-answer-next .before .before in
+    sym (length-take-le (at-loop .loop .filled + at-answer-next .answer-next .result .wrote) (Buffer at-answer-next) (end-inside at-answer-next))
 
 write-all-requires : tie.Need-write-all-requires Inv-loop μ-loop
 write-all-requires c κs = tt
@@ -97,25 +97,25 @@ add-number c =
 
 flushed-requires : tie.Need-flushed-requires Inv-loop μ-loop
 flushed-requires c κs =
-    let at-step = c .before .before .before .before .before .before in
-    let at-loop = at-step .before .before in
-    (end-inside at-step, let s = as-long at-step in omega (arith, at-loop .loop .inv .room))
+    let at-answer-next = c .before .before .before .before .before .before in
+    let at-loop = at-answer-next .before .before in
+    (end-inside at-answer-next, let s = as-long at-answer-next in omega (arith, at-loop .loop .inv .room))
 
 loop-less : tie.Need-loop-less Inv-loop μ-loop
 loop-less c =
     let more = not-false _ (c .before .before .if1 .left) in
-    let f = turned-from _ _ _ _ _ _ _ _ (c .before .before .before .before .before .before .before .step .ensures) more in
-    let t = turned-to _ _ _ _ _ _ _ _ (c .before .before .before .before .before .before .before .step .ensures) more in
+    let f = turned-from _ _ _ _ _ _ _ _ (c .before .before .before .before .before .before .before .answer-next .ensures) more in
+    let t = turned-to _ _ _ _ _ _ _ _ (c .before .before .before .before .before .before .before .answer-next .ensures) more in
     omega arith
 
 loop-again : tie.Need-loop-again Inv-loop μ-loop
 loop-again c =
     let at-if1 = c .before .before in
-    let at-step = at-if1 .before .before .before .before .before in
-    let at-loop = at-step .before .before in
+    let at-answer-next = at-if1 .before .before .before .before .before in
+    let at-loop = at-answer-next .before .before in
     let more = not-false _ (at-if1 .if1 .left) in
-    let f = turned-from _ _ _ _ _ _ _ _ (at-step .step .ensures) more in
-    record { inside = turned-to _ _ _ _ _ _ _ _ (at-step .step .ensures) more; few = omega (arith, at-loop .loop .inv .few); room = c .flushed .ensures; same = as-long at-step ∙ at-loop .loop .inv .same }
+    let f = turned-from _ _ _ _ _ _ _ _ (at-answer-next .answer-next .ensures) more in
+    record { inside = turned-to _ _ _ _ _ _ _ _ (at-answer-next .answer-next .ensures) more; few = omega (arith, at-loop .loop .inv .few); room = c .flushed .ensures; same = as-long at-answer-next ∙ at-loop .loop .inv .same }
 
 pub print-lists-spec : {M : Type 1} → statement M
 print-lists-spec =
@@ -124,10 +124,10 @@ print-lists-spec =
     Inv-loop
     μ-loop
     loop-holds
-    sub-step
-    part-step-start
-    part-step-end
-    step-requires
+    sub-answer-next
+    part-answer-next-start
+    part-answer-next-end
+    answer-next-requires
     add-end
     slice-reshare-prefix-write-all
     slice-aggregate-write-all

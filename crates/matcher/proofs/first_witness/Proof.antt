@@ -1,16 +1,16 @@
 -- `matcher::first_witness` meets its contract: by the length, by the members of a subset, or by the blocks. Assumes nothing.
 use native.Mathlib.Omega.{arith}
 use borrow.Author.Tests.{not-true, not-false}
-use Rattle.matcher.proofs.Entries.{unmet, cut-first, fill-first, ready-inside}
+use Rattle.matcher.proofs.ByPlan.{unmet, cut-first, fill-first, ready-inside}
 use borrow.Author.Needs.{needs}
 use Rattle.matcher.proofs.first_witness.Statement.{statement}
 use Rattle.matcher.proofs.first_witness.Tie as tie
 use Rattle.matcher.proofs.first_witness.Reads as reads
 use Rattle.matcher.proofs.first_witness.Lts as lts
 use Rattle.cuts.proofs.first_cut.Reads as first-cut-reads
-use Rattle.cuts.proofs.first_filling.Reads as first-filling-reads
+use Rattle.fillings.proofs.first_filling.Reads as first-filling-reads
 use Rattle.matcher.proofs.length_met.Reads as length-met-reads
-use Rattle.plan.proofs.rows_of.Reads as rows-of-reads
+use Rattle.member_rows.proofs.rows_of.Reads as rows-of-reads
 
 length-met-requires : tie.Need-length-met-requires
 length-met-requires c κs = search needs

@@ -3,14 +3,14 @@ use mathlib.Core.Path.{sym, _∙_}
 use mathlib.Core.Bool.{cond}
 use mathlib.Core.Path.{ap}
 use mathlib.Core.Bool.{Bool}
-use Rattle.matcher.proofs.Entries.{planned-ready, judge-long, judge-many, judge-size, judge-refused, judge-says}
+use Rattle.matcher.proofs.ByPlan.{planned-ready, judge-long, judge-many, judge-size, judge-refused, judge-says}
 use borrow.Author.Needs.{needs}
 use Rattle.matcher.proofs.judge.Statement.{statement}
 use Rattle.matcher.proofs.judge.Tie as tie
 use Rattle.matcher.proofs.judge.Reads as reads
 use Rattle.matcher.proofs.judge.Lts as lts
 use Rattle.matcher.proofs.witness_passes.Reads as witness-passes-reads
-use Rattle.plan.proofs.plan_of.Reads as plan-of-reads
+use Rattle.member_rows.proofs.plan_of.Reads as plan-of-reads
 
 returns : tie.Need-returns
 returns c =

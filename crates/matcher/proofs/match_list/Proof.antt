@@ -1,6 +1,6 @@
 -- `matcher::match_list` meets its contract: each test of the code is the next row of `matchAnswer`. Assumes nothing.
 use borrow.Author.Tests.{not-true, not-false}
-use Rattle.matcher.proofs.Entries.{planned-ready, match-long, match-many, match-room, match-refused, match-none, match-found, found-is}
+use Rattle.matcher.proofs.ByPlan.{planned-ready, match-long, match-many, match-room, match-refused, match-none, match-found, found-is}
 use borrow.Author.Needs.{needs}
 use Rattle.matcher.proofs.match_list.Statement.{statement}
 use Rattle.matcher.proofs.match_list.Tie as tie
@@ -8,7 +8,7 @@ use Rattle.matcher.proofs.match_list.Reads as reads
 use Rattle.matcher.proofs.match_list.Lts as lts
 use Rattle.matcher.proofs.first_witness.Reads as first-witness-reads
 use Rattle.matcher.proofs.write_witness.Reads as write-witness-reads
-use Rattle.plan.proofs.plan_of.Reads as plan-of-reads
+use Rattle.member_rows.proofs.plan_of.Reads as plan-of-reads
 
 returns : tie.Need-returns
 returns c =

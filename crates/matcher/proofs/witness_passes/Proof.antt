@@ -1,16 +1,16 @@
 -- `matcher::witness_passes` meets its contract: by the length, by the members of a subset, or by the blocks. Assumes nothing.
 use native.Mathlib.Omega.{arith}
 use borrow.Author.Tests.{not-true, not-false}
-use Rattle.matcher.proofs.Entries.{unmet-passes, cut-passed, fill-passed, ready-inside}
+use Rattle.matcher.proofs.ByPlan.{unmet-passes, cut-passed, fill-passed, ready-inside}
 use borrow.Author.Needs.{needs}
 use Rattle.matcher.proofs.witness_passes.Statement.{statement}
 use Rattle.matcher.proofs.witness_passes.Tie as tie
 use Rattle.matcher.proofs.witness_passes.Reads as reads
 use Rattle.matcher.proofs.witness_passes.Lts as lts
-use Rattle.passes.proofs.cut_passes.Reads as cut-passes-reads
-use Rattle.passes.proofs.filling_passes.Reads as filling-passes-reads
+use Rattle.judging.proofs.cut_passes.Reads as cut-passes-reads
+use Rattle.judging.proofs.filling_passes.Reads as filling-passes-reads
 use Rattle.matcher.proofs.length_met.Reads as length-met-reads
-use Rattle.plan.proofs.rows_of.Reads as rows-of-reads
+use Rattle.member_rows.proofs.rows_of.Reads as rows-of-reads
 
 length-met-requires : tie.Need-length-met-requires
 length-met-requires c κs = search needs

@@ -8,7 +8,7 @@ use native.Mathlib.Numerals.{add-one}
 use borrow.Kind.Array.{eInt, good-length}
 use mir.Syntax.{w8}
 use lib.ListN.{length, take, drop, getD}
-use Rattle.matcher.proofs.Entries.{copy-step, copy-length}
+use Rattle.matcher.proofs.ByPlan.{copy-step, copy-length}
 use Rattle.matcher.proofs.write_witness.Statement.{statement}
 use Rattle.matcher.proofs.write_witness.Tie as tie
 use Rattle.matcher.proofs.write_witness.Reads as reads

@@ -2,9 +2,8 @@
 use mathlib.Core.Path.{sym, _∙_}
 use native.Mathlib.Omega.{arith}
 use borrow.Author.Needs.{needs}
-use Rattle.masks.proofs.Lemmas.{between-in}
-use Rattle.masks.proofs.Masks.{row-may, row-picks}
-use Rattle.assign.proofs.Assignments.{turned-same}
+use Rattle.facts.proofs.Spans.{between-in}
+use Rattle.rows.proofs.Rows.{row-may, row-picks, turned-says}
 use Rattle.reasons.proofs.Groups.{given-agree}
 use Rattle.reasons.proofs.exchanged_reason.Statement.{statement}
 use Rattle.reasons.proofs.exchanged_reason.Tie as tie
@@ -19,7 +18,7 @@ returns : tie.Need-returns
 returns c =
     let turning = c .before .before in
     let cols = turning .turned .result in
-    given-agree (λ e m l h. sym (row-may cols e m) ∙ row-picks cols m e ∙ turned-same (turning .turned .ensures) m e (between-in 0 _ m (omega arith) (omega arith)) (between-in 0 _ e (omega arith) (omega arith))) (c .reason .ensures)
+    given-agree (λ e m l h. sym (row-may cols e m) ∙ row-picks cols m e ∙ turned-says (turning .turned .ensures) m e (between-in 0 _ m (omega arith) (omega arith)) (between-in 0 _ e (omega arith) (omega arith))) (c .reason .ensures)
 
 pub exchanged-reason-spec : {M : Type 1} → statement M
 exchanged-reason-spec = tie.close (tie.spec turned-requires reason-requires returns)

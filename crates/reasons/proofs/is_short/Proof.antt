@@ -1,9 +1,10 @@
 -- `is_short` meets its contract: the ones of a mask are the numbers in it. Assumes nothing.
 use mathlib.Core.Path.{ap₂, _∙_}
 use lib.Dec.{ltb}
-use Rattle.masks.specs.Rows.{bit, may}
+use Rattle.masks.specs.Masks.{bit}
+use Rattle.rows.specs.Rows.{may}
 use Rattle.reasons.proofs.Groups.{met}
-use Rattle.reasons.proofs.Counts.{count-same}
+use Rattle.facts.proofs.CountedSets.{count-same}
 use Rattle.reasons.proofs.Ones.{ones-count}
 use borrow.Author.Needs.{needs}
 use Rattle.reasons.proofs.is_short.Statement.{statement}

@@ -3,7 +3,8 @@ use mathlib.Core.Path.{refl, sym, _∙_}
 use native.Mathlib.Omega.{arith}
 use borrow.Author.Needs.{needs}
 use borrow.Author.Tests.{ltb-true, ltb-false}
-use Rattle.masks.specs.Rows.{bit, may}
+use Rattle.masks.specs.Masks.{bit}
+use Rattle.rows.specs.Rows.{may}
 use Rattle.reasons.specs.Reason.{matched, sizeOf, Reason, aReason, noReason}
 use Rattle.reasons.proofs.Closures.{grown-reason}
 use Rattle.reasons.proofs.Groups.{reason-short}

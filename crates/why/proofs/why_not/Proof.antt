@@ -2,7 +2,7 @@
 use mathlib.Core.Path.{sym, ap}
 use borrow.Author.Needs.{needs}
 use Rattle.why.specs.Why.{numberOf}
-use Rattle.why.proofs.Whys.{why-group, why-none}
+use Rattle.why.proofs.NumberAndGroup.{why-group, why-none}
 use Rattle.why.proofs.why_not.Statement.{statement}
 use Rattle.why.proofs.why_not.Tie as tie
 

@@ -5,11 +5,13 @@ use mathlib.Core.Logic.{⊎-elim}
 use mathlib.Core.List.{List}
 use Prim.Native.Nat.{ℕ, _+_, _-_, _≤_}
 use native.Mathlib.Omega.{arith}
-use Rattle.masks.specs.Rows.{bit, may}
+use Rattle.masks.specs.Masks.{bit}
+use Rattle.rows.specs.Rows.{may}
 use lib.ListN.{getD}
-use Rattle.masks.proofs.Lemmas.{clash, both}
-use Rattle.masks.proofs.Masks.{and-bits, and-none, bit-and, row-may}
-use Rattle.assign.proofs.Quicks.{GreedyTo, greedy-start, greedy-none, greedy-some}
+use Rattle.facts.proofs.Cases.{clash, both}
+use Rattle.masks.proofs.Masks.{and-bits, and-none, bit-and}
+use Rattle.rows.proofs.Rows.{row-may}
+use Rattle.assign.proofs.LeastFree.{GreedyTo, greedy-start, greedy-none, greedy-some}
 use Rattle.assign.proofs.quick.quick.Statement.{statement}
 use Rattle.assign.proofs.quick.quick.Tie as tie
 

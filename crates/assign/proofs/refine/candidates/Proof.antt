@@ -1,8 +1,8 @@
 -- `candidates` meets its contract: all rivals, or those in the group of a search that failed for the holder of e. Assumes nothing.
 use native.Mathlib.Omega.{arith}
 use Rattle.masks.proofs.Masks.{bit-none, bit-and}
-use Rattle.assign.proofs.Chains.{opened-ready}
-use Rattle.assign.proofs.Firsts.{candidates-all, candidates-reached}
+use Rattle.chains.proofs.Chains.{opened-ready}
+use Rattle.assign.proofs.Refinement.{candidates-all, candidates-reached}
 use Rattle.assign.proofs.refine.candidates.Statement.{statement}
 use Rattle.assign.proofs.refine.candidates.Tie as tie
 

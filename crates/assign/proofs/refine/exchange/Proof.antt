@@ -4,8 +4,8 @@ use Prim.Native.Nat.{_<_}
 use native.Mathlib.Omega.{arith}
 use lib.ListN.{getD}
 use borrow.Author.Needs.{needs}
-use Rattle.masks.proofs.Lemmas.{clash}
-use Rattle.assign.proofs.Deals.{exchange-spare, exchange-served, exchange-blocked}
+use Rattle.facts.proofs.Cases.{clash}
+use Rattle.assign.proofs.AsThirtyTwoBytes.{exchange-spare, exchange-served, exchange-blocked}
 use Rattle.assign.proofs.refine.exchange.Statement.{statement}
 use Rattle.assign.proofs.refine.exchange.Tie as tie
 

@@ -5,7 +5,7 @@ use mathlib.Core.Logic.{⊎-elim}
 use Prim.Native.Nat.{ℕ, _-_, _<_, _≤_}
 use native.Mathlib.Omega.{arith}
 use lib.ListN.{getD}
-use Rattle.masks.proofs.Lemmas.{same?}
+use Rattle.facts.proofs.Cases.{same?}
 use Rattle.assign.proofs.refine.place_of.Statement.{statement}
 use Rattle.assign.proofs.refine.place_of.Tie as tie
 

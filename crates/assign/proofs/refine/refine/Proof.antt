@@ -2,10 +2,10 @@
 -- The measure is what is left of the piece. At the last place there is nothing to change. Assumes nothing.
 use Prim.Native.Nat.{ℕ, _+_, _-_, _≤_}
 use native.Mathlib.Omega.{arith}
-use Rattle.masks.specs.Rows.{picks}
+use Rattle.rows.specs.Rows.{picks}
 use Rattle.assign.specs.Saturate.{Dealt}
 use Rattle.assign.specs.Refine.{Leads}
-use Rattle.assign.proofs.Firsts.{leads-start, leads-step, leads-last}
+use Rattle.assign.proofs.Refinement.{leads-start, leads-step, leads-last}
 use Rattle.assign.proofs.refine.refine.Statement.{statement}
 use Rattle.assign.proofs.refine.refine.Tie as tie
 

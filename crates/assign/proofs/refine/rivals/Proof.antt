@@ -6,11 +6,12 @@ use Prim.Native.Nat.{ℕ, _+_, _-_, _<_, _≤_}
 use native.Mathlib.Omega.{arith}
 use lib.ListN.{getD}
 use borrow.Author.Needs.{needs}
-use Rattle.masks.specs.Rows.{bit, picks}
+use Rattle.masks.specs.Masks.{bit}
+use Rattle.rows.specs.Rows.{picks}
 use Rattle.assign.specs.Refine.{Rivals}
-use Rattle.masks.proofs.Lemmas.{clash}
+use Rattle.facts.proofs.Cases.{clash}
 use Rattle.masks.proofs.Masks.{bit-none}
-use Rattle.assign.proofs.Firsts.{rivals-none, rivals-skip, rivals-more}
+use Rattle.assign.proofs.Refinement.{rivals-none, rivals-skip, rivals-more}
 use Rattle.assign.proofs.refine.rivals.Statement.{statement}
 use Rattle.assign.proofs.refine.rivals.Tie as tie
 
@@ -20,11 +21,11 @@ Inv-loop rows to e w bound found₀ p₀ found p = (e < p) × (p ≤ to) × Riva
 abbrev μ-loop : tie.MeasureT-loop
 μ-loop rows to e w bound found₀ p₀ found p = to - p
 
-array-read-least : tie.Need-array-read-least Inv-loop μ-loop
-array-read-least c = omega arith
+array-read-lesser-byte : tie.Need-array-read-lesser-byte Inv-loop μ-loop
+array-read-lesser-byte c = omega arith
 
-least-requires : tie.Need-least-requires Inv-loop μ-loop
-least-requires c κs = search needs
+lesser-byte-requires : tie.Need-lesser-byte-requires Inv-loop μ-loop
+lesser-byte-requires c κs = search needs
 
 add-p : tie.Need-add-p Inv-loop μ-loop
 add-p c = omega arith
@@ -41,7 +42,7 @@ array-read-m c = omega arith
 -- the holder of p is a member, and below the byte of e
 small : (c : tie.Then1 Inv-loop μ-loop) → let l = c .before .before in let a = l .before .before .args in
     (getD (a .t3) (l .loop .p) 0 < 32) × (getD (a .t3) (l .loop .p) 0 < getD (a .t3) (a .e) 0)
-small c = let b = c .before .before .before .least .ensures in (omega (arith, c .if1 .taken), omega (arith, c .if1 .taken))
+small c = let b = c .before .before .before .lesser-byte .ensures in (omega (arith, c .if1 .taken), omega (arith, c .if1 .taken))
 
 may-pick-requires : tie.Need-may-pick-requires Inv-loop μ-loop
 may-pick-requires c κs = let p = c .before .before .before .before .pre in (small c .0, omega (arith, p .0, p .1))
@@ -61,7 +62,7 @@ loop-again c =
     let a = l .before .before .args in
     let i = l .loop .inv in
     let m = getD (a .t3) (l .loop .p) 0 in
-    let b = l .before .least .ensures in
+    let b = l .before .lesser-byte .ensures in
     let again : ℕ → Type 0 = λ found. Rivals (picks (a .columns .now)) (a .t3) (a .e) (l .loop .p + 1) (bit found) in (
       omega arith,
       omega arith,
@@ -89,5 +90,5 @@ returns c =
 pub rivals-spec : {M : Type 1} → statement M
 rivals-spec =
     tie.close
-    (tie.spec Inv-loop μ-loop array-read-least least-requires add-p loop-holds cast-m array-read-m may-pick-requires with-requires
+    (tie.spec Inv-loop μ-loop array-read-lesser-byte lesser-byte-requires add-p loop-holds cast-m array-read-m may-pick-requires with-requires
     add-p-2 loop-less loop-again returns)

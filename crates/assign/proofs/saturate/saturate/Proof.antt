@@ -4,13 +4,16 @@ use mathlib.Core.Path.{refl, ap, _∙_}
 use Prim.Native.Nat.{ℕ, _+_, _<_, _≤_}
 use native.Mathlib.Omega.{arith}
 use borrow.Author.Tests.{not-true, not-false}
-use Rattle.masks.specs.Rows.{bit, picks, count}
-use Rattle.assign.specs.Chain.{Opened}
+use Rattle.masks.specs.Masks.{bit}
+use Rattle.rows.specs.Rows.{picks}
+use Rattle.facts.specs.Counting.{count}
+use Rattle.chains.specs.Chain.{Opened}
 use Rattle.assign.specs.Saturate.{Partly}
-use Rattle.masks.proofs.Lemmas.{clash, between-to}
+use Rattle.facts.proofs.Cases.{clash}
+use Rattle.facts.proofs.Spans.{between-to}
 use Rattle.masks.proofs.Masks.{bit-none}
-use Rattle.assign.proofs.Chains.{left-falls, opened-ready, opened-filled, placed}
-use Rattle.assign.proofs.Deals.{partly-done, partly-served, partly-short}
+use Rattle.chains.proofs.Chains.{left-falls, opened-ready, opened-filled, placed}
+use Rattle.assign.proofs.AsThirtyTwoBytes.{partly-done, partly-served, partly-short}
 use Rattle.assign.proofs.saturate.saturate.Statement.{statement}
 use Rattle.assign.proofs.saturate.saturate.Tie as tie
 

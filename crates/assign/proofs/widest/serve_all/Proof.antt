@@ -6,13 +6,15 @@ use mathlib.Core.Logic.{⊎-elim}
 use mathlib.Core.List.{List}
 use Prim.Native.Nat.{ℕ, _+_, _<_, _≤_}
 use native.Mathlib.Omega.{arith}
-use Rattle.masks.specs.Rows.{bit, picks, count}
-use Rattle.assign.specs.Chain.{Opened}
+use Rattle.masks.specs.Masks.{bit}
+use Rattle.rows.specs.Rows.{picks}
+use Rattle.facts.specs.Counting.{count}
+use Rattle.chains.specs.Chain.{Opened}
 use Rattle.assign.specs.Saturate.{Partly}
-use Rattle.masks.proofs.Lemmas.{between-to}
+use Rattle.facts.proofs.Spans.{between-to}
 use Rattle.masks.proofs.Masks.{bit-none}
-use Rattle.assign.proofs.Chains.{left-falls, opened-ready, opened-filled}
-use Rattle.assign.proofs.Wides.{Clear, clear-start, clear-served, clear-stuck, Wide, wide-start, wide-served, wide-stuck, wide-done}
+use Rattle.chains.proofs.Chains.{left-falls, opened-ready, opened-filled}
+use Rattle.assign.proofs.AsManyAsCan.{Clear, clear-start, clear-served, clear-stuck, Wide, wide-start, wide-served, wide-stuck, wide-done}
 use Rattle.assign.proofs.widest.serve_all.Statement.{statement}
 use Rattle.assign.proofs.widest.serve_all.Tie as tie
 

@@ -4,7 +4,7 @@ use mathlib.Core.Path.{_≡_, refl}
 use Prim.Native.Nat.{_+_, _-_, _*_, _≤_}
 use native.Mathlib.Omega.{arith}
 use borrow.Author.Needs.{needs}
-use Rattle.cuts.proofs.Bytes.{Fetched, fetch-start, fetch-step, fetch-end}
+use Rattle.cuts.proofs.TableEntries.{Fetched, fetch-start, fetch-step, fetch-end}
 use Rattle.cuts.proofs.cells.read.Statement.{statement}
 use Rattle.cuts.proofs.cells.read.Tie as tie
 use Rattle.cuts.proofs.cells.read.Reads as reads

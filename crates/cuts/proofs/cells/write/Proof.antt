@@ -6,7 +6,7 @@ use Prim.Native.Nat.{ℕ, _+_, _-_, _*_, _≤_}
 use native.Mathlib.Omega.{arith}
 use lib.Dec.{eqb}
 use borrow.Author.Needs.{needs}
-use Rattle.cuts.proofs.Bytes.{Stored, store-start, store-step, store-end}
+use Rattle.cuts.proofs.TableEntries.{Stored, store-start, store-step, store-end}
 use Rattle.cuts.proofs.cells.write.Statement.{statement}
 use Rattle.cuts.proofs.cells.write.Tie as tie
 use Rattle.cuts.proofs.cells.write.Reads as reads

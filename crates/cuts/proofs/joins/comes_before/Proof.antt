@@ -8,8 +8,8 @@ use lib.ListN.{length}
 use lib.Seq.{slice}
 use mir.Syntax.{w8}
 use borrow.Author.Needs.{needs}
-use Rattle.assign.specs.Order.{earlier}
-use Rattle.cuts.proofs.Lists.{order-end, order-differ, order-agree}
+use Rattle.byte_order.specs.ByteOrder.{earlier}
+use Rattle.cuts.proofs.ByteByByte.{order-end, order-differ, order-agree}
 use Rattle.cuts.proofs.joins.comes_before.Statement.{statement}
 use Rattle.cuts.proofs.joins.comes_before.Tie as tie
 use Rattle.cuts.proofs.joins.comes_before.Reads as reads

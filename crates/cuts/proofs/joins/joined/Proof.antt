@@ -3,7 +3,7 @@
 use native.Mathlib.Omega.{arith}
 use borrow.Author.Needs.{needs}
 use borrow.Author.Tests.{not-true, not-false}
-use Rattle.cuts.proofs.Givens.{joined-absent, joined-spare, joined-single}
+use Rattle.cuts.proofs.Suffixes.{joined-absent, joined-spare, joined-single}
 use Rattle.cuts.proofs.joins.joined.Statement.{statement}
 use Rattle.cuts.proofs.joins.joined.Tie as tie
 use Rattle.cuts.proofs.joins.joined.Reads as reads

@@ -1,13 +1,13 @@
 -- `searched` meets its contract: the first assignment of the piece before the rest, where there is one. Assumes nothing.
 use borrow.Author.Needs.{needs}
 use borrow.Author.Tests.{not-true, not-false}
-use Rattle.cuts.proofs.Givens.{joined-none, joined-found}
+use Rattle.cuts.proofs.Suffixes.{joined-none, joined-found}
 use Rattle.cuts.proofs.joins.searched.Statement.{statement}
 use Rattle.cuts.proofs.joins.searched.Tie as tie
 use Rattle.cuts.proofs.joins.searched.Reads as reads
 use Rattle.cuts.proofs.joins.searched.Lts as lts
 use Rattle.assign.proofs.first_assignment.Reads as first-assignment-reads
-use Rattle.cuts.proofs.joins.splice.Reads as splice-reads
+use Rattle.assign.proofs.splice.Reads as splice-reads
 
 cast-first-assignment : tie.Need-cast-first-assignment
 cast-first-assignment c = search needs

@@ -7,7 +7,7 @@ use Rattle.cuts.proofs.joins.single.Statement.{statement}
 use Rattle.cuts.proofs.joins.single.Tie as tie
 use Rattle.cuts.proofs.joins.single.Reads as reads
 use Rattle.cuts.proofs.joins.single.Lts as lts
-use Rattle.masks.proofs.rows.may_take.Reads as may-take-reads
+use Rattle.rows.proofs.may_take.Reads as may-take-reads
 
 cast-may-take : tie.Need-cast-may-take
 cast-may-take c = search needs

@@ -5,10 +5,10 @@ use mathlib.Core.List.{List}
 use Prim.Native.Nat.{_+_, _-_, _≤_, min}
 use native.Mathlib.Omega.{arith}
 use borrow.Author.Needs.{needs}
-use Rattle.masks.specs.Rows.{may}
+use Rattle.rows.specs.Rows.{may}
 use Rattle.blocks.specs.declared.Block.{Block}
 use Rattle.cuts.specs.declared.Suffix.{Suffix}
-use Rattle.cuts.specs.Cut.{Cuts}
+use Rattle.blocks.specs.Pieces.{Cuts}
 use Rattle.cuts.specs.Table.{Given, Tabled, CutBefore, shortest, longest}
 use Rattle.cuts.proofs.Tables.{onward, place-start, place-step, place-end}
 use Rattle.cuts.proofs.table.at_place.Statement.{statement}
@@ -18,7 +18,7 @@ use Rattle.cuts.proofs.table.at_place.Lts as lts
 use Rattle.cuts.proofs.cells.read.Reads as read-reads
 use Rattle.cuts.proofs.joins.joined.Reads as joined-reads
 use Rattle.cuts.proofs.joins.keep.Reads as keep-reads
-use Rattle.cuts.proofs.table.lesser.Reads as lesser-reads
+use Rattle.masks.proofs.lesser.Reads as lesser-reads
 
 abbrev Inv-loop : tie.InvT-loop
 Inv-loop rows b t from n best₀ last to₀ best to = (from + b .k + b .min ≤ to) × (last ≡ min (from + b .k + b .max) n)

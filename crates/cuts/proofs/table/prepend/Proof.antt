@@ -5,7 +5,7 @@ use Rattle.cuts.proofs.table.prepend.Statement.{statement}
 use Rattle.cuts.proofs.table.prepend.Tie as tie
 use Rattle.cuts.proofs.table.prepend.Reads as reads
 use Rattle.cuts.proofs.table.prepend.Lts as lts
-use Rattle.cuts.proofs.table.lesser.Reads as lesser-reads
+use Rattle.masks.proofs.lesser.Reads as lesser-reads
 use Rattle.cuts.proofs.table.prepend_any.Reads as prepend-any-reads
 use Rattle.cuts.proofs.table.prepend_even.Reads as prepend-even-reads
 use Rattle.cuts.proofs.table.prepend_open.Reads as prepend-open-reads

@@ -5,7 +5,7 @@ use mathlib.Core.List.{List}
 use Prim.Native.Nat.{_+_, _-_, _≤_}
 use native.Mathlib.Omega.{arith}
 use lib.ListN.{length}
-use Rattle.masks.specs.Rows.{may}
+use Rattle.rows.specs.Rows.{may}
 use Rattle.blocks.specs.declared.Block.{Block}
 use Rattle.cuts.specs.Table.{Tabled, shortest, longest}
 use Rattle.cuts.proofs.Tables.{Walked, walk-start, walk-table, walk-step, walk-end}

@@ -7,10 +7,10 @@ use Prim.Native.Nat.{_+_, _-_, _≤_}
 use native.Mathlib.Omega.{arith}
 use lib.ListN.{length}
 use borrow.Author.Needs.{needs}
-use Rattle.masks.specs.Rows.{may}
+use Rattle.rows.specs.Rows.{may}
 use Rattle.blocks.specs.declared.Block.{Block}
 use Rattle.cuts.specs.declared.Suffix.{Suffix}
-use Rattle.cuts.specs.Cut.{Cuts}
+use Rattle.blocks.specs.Pieces.{Cuts}
 use Rattle.cuts.specs.Table.{Given, Tabled, shortest, longest}
 use Rattle.cuts.proofs.Tables.{Walked, walk-start, walk-step, walk-end, even-end, even-none}
 use Rattle.cuts.proofs.table.prepend_even.Statement.{statement}

@@ -10,7 +10,7 @@ use lib.ListN.{length}
 use borrow.Author.Needs.{needs}
 use Rattle.blocks.specs.declared.Block.{Block}
 use Rattle.cuts.specs.declared.Suffix.{Suffix}
-use Rattle.cuts.specs.Cut.{Cuts}
+use Rattle.blocks.specs.Pieces.{Cuts}
 use Rattle.cuts.specs.Table.{Given, Tabled, shortest, longest}
 use Rattle.cuts.proofs.Tables.{Opened, opened-start, opened-step, open-step, open-short}
 use Rattle.cuts.proofs.table.prepend_open.Statement.{statement}

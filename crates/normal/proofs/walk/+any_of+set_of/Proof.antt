@@ -11,12 +11,12 @@ use native.Mathlib.Numerals.{add-one}
 use lib.IntN.{ℤ}
 use lib.ListN.{length, getD, set, length-append, length-set}
 use borrow.Author.Needs.{needs, length-unmapped}
-use Rattle.words.proofs.SignedLocals.{again, again-same}
+use Rattle.integers.proofs.SignedLocals.{again, again-same}
 use Rattle.ranges.proofs.Views.{length-view, view-push}
 use borrow.Fn.Kinds.{In}
 use borrow.Fn.PlainCycle.{Measures, is, falls, and}
 use Rattle.ranges.specs.Shown.{view, spans}
-use Rattle.words.specs.Integer.{Word}
+use Rattle.integers.specs.Integer.{Word}
 use Rattle.ranges.specs.declared.Ranges.{Ranges}
 use Rattle.ranges.specs.Spans.{Span, span, holds, Ascending, edges}
 use Rattle.normal.specs.Contract.{Here, LeafHere, Members, HereSet, AnySet}

@@ -6,8 +6,8 @@ use native.Mathlib.Omega.{arith}
 use lib.IntN.{ℤ}
 use lib.ListN.{length, getD}
 use Rattle.ranges.specs.Spans.{span}
-use Rattle.words.proofs.SignedLocals.{again, again-same}
-use Rattle.words.specs.Integer.{intAt}
+use Rattle.integers.proofs.SignedLocals.{again, again-same}
+use Rattle.integers.specs.Integer.{intAt}
 use Rattle.normal.proofs.Walks.{leaf-fits, single-fits, range-fits, single-set, range-set, any-set}
 use Rattle.normal.proofs.walk.leaf_at.Statement.{statement}
 use Rattle.normal.proofs.walk.leaf_at.Tie as tie

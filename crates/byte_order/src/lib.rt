@@ -1,0 +1,1 @@
+// The order of lists of bytes, and the first list of a kind. There is no code here.

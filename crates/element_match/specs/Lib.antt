@@ -1,0 +1,4 @@
+-- The definitions of `element_match`. What an element template matches stands in `elements`.
+-- Contract == what the functions say
+-- Assumes nothing: these are definitions.
+pub mod Contract

@@ -1,0 +1,105 @@
+// Does this integer match the element template that stands here.
+ghost use Rattle.element_match.specs.Contract.{ElementAt, HitAt, LeafHere, LeafHit, Members, AnyHit, NoneHit};
+use format::ANY_SIZE;
+use format::COMPLEMENT;
+use format::LIST;
+use format::RANGE;
+use format::RANGE_SIZE;
+use format::SINGLE;
+use format::SINGLE_SIZE;
+use integers::int_at;
+use integers::same;
+use integers::within;
+
+// Whether what was walked over matches, and the place after it.
+pub struct Walk {
+    pub hit: bool,
+    pub next: usize,
+}
+
+// Whether the leaf at `at` matches x.
+fn leaf_hit(t: &[u8], at: usize, x: i32) -> Walk
+    requires { ⌜ LeafHere (now t) at ⌝ }
+    ensures { λ r. ⌜ LeafHit (now (t .entry)) at x (r .hit) (r .next) ⌝ }
+{
+    let kind = t[at];
+    if kind == SINGLE {
+        return Walk {
+            hit: same(int_at(t, at + 1), x),
+            next: at + SINGLE_SIZE,
+        };
+    }
+    if kind == RANGE {
+        return Walk {
+            hit: within(x, int_at(t, at + 1), int_at(t, at + 5)),
+            next: at + RANGE_SIZE,
+        };
+    }
+    Walk {
+        hit: true,
+        next: at + ANY_SIZE,
+    }
+}
+
+// Whether at least one of the n element templates at `at` matches x.
+fn any_of(t: &[u8], at: usize, n: usize, x: i32, left: usize) -> Walk
+    requires { ⌜ Members (now t) at n left ⌝ }
+    ensures { λ r. ⌜ AnyHit (now (t .entry)) at n left x (r .hit) (r .next) ⌝ }
+{
+    let mut hit = false;
+    let mut p = at;
+    let mut more = n;
+    while 0 < more {
+        let kind = t[p];
+        let w = if kind == LIST {
+            any_of(t, p + 2, t[p + 1] as usize, x, left - 1)
+        } else if kind == COMPLEMENT {
+            none_of(t, p + 2, t[p + 1] as usize, x, left - 1)
+        } else {
+            leaf_hit(t, p, x)
+        };
+        hit = hit | w.hit;
+        p = w.next;
+        more -= 1;
+    }
+    Walk { hit, next: p }
+}
+
+// Whether none of the n element templates at `at` matches x.
+fn none_of(t: &[u8], at: usize, n: usize, x: i32, left: usize) -> Walk
+    requires { ⌜ Members (now t) at n left ⌝ }
+    ensures { λ r. ⌜ NoneHit (now (t .entry)) at n left x (r .hit) (r .next) ⌝ }
+{
+    let mut none = true;
+    let mut p = at;
+    let mut more = n;
+    while 0 < more {
+        let kind = t[p];
+        let w = if kind == LIST {
+            any_of(t, p + 2, t[p + 1] as usize, x, left - 1)
+        } else if kind == COMPLEMENT {
+            none_of(t, p + 2, t[p + 1] as usize, x, left - 1)
+        } else {
+            leaf_hit(t, p, x)
+        };
+        none = none & !w.hit;
+        p = w.next;
+        more -= 1;
+    }
+    Walk { hit: none, next: p }
+}
+
+// Whether the element template at `at` matches x, and the place after it.
+pub fn match_element(t: &[u8], at: usize, x: i32) -> Walk
+    requires { ⌜ ElementAt (now t) at ⌝ }
+    ensures { λ r. ⌜ HitAt (now (t .entry)) at x (r .hit) (r .next) ⌝ }
+{
+    let kind = t[at];
+    if kind == LIST {
+        return any_of(t, at + 2, t[at + 1] as usize, x, 7);
+    }
+    if kind == COMPLEMENT {
+        return none_of(t, at + 2, t[at + 1] as usize, x, 7);
+    }
+    leaf_hit(t, at, x)
+}

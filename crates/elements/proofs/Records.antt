@@ -1,0 +1,165 @@
+-- One record at a place of the input: its faults, and its parts where it has none. Assumes nothing.
+use mathlib.Core.Path.{_≡_, refl, sym, ap, _∙_}
+use mathlib.Core.Bool.{Bool, true, false, cond}
+use mathlib.Core.List.{List}
+use Prim.Native.Nat.{ℕ, zero, suc, _+_, _-_, _≤_, _<_}
+use native.Mathlib.Nat.{add-zero}
+use native.Mathlib.Omega.{arith}
+use borrow.Author.Tests.{ltb-false, lt-ltb, le-ltb, eq-eqb, ne-eqb}
+use lib.Signed.{ltZ}
+use lib.Dec.{ltb}
+use lib.ListN.{length, getD, drop, length-drop}
+use lib.Seq.{getD-drop, drop-drop}
+use Rattle.integers.specs.Integer.{intAt}
+use Rattle.facts.proofs.Cases.{by-test}
+use Rattle.integers.proofs.FourBytes.{intAt-drop}
+use Rattle.elements.specs.Record.{Head, fault, leafHere, group, outside, countFault, faultOr, groupHead, head}
+use Rattle.elements.specs.Leaf.{single, range, any, singleHead, rangeHead, leafHead}
+use Rattle.elements.specs.Contract.{HeadAt, faulty, aLeaf, aGroup}
+
+-- ---- at a place
+
+pub kind-at : (t : List ℕ) (at : ℕ) → getD (drop at t) 0 0 ≡ getD t at 0
+kind-at t at = simp (getD-drop, add-zero)
+
+-- ---- a body of one byte
+
+module _ (lo hi : ℕ) (t : List ℕ) (at : ℕ) where
+  pub count-short : length t - at < 2 → 3 ≡ countFault lo hi (drop at t)
+  unfolding countFault
+  count-short h = rw (lt-ltb (length (drop at t)) 2 (omega (arith, length-drop at t)))
+
+  module _ (room : 2 ≤ length t - at) where
+    pub count-low : getD t (at + 1) 0 < lo → 5 ≡ countFault lo hi (drop at t)
+    unfolding countFault
+    count-low h = rw (le-ltb (length (drop at t)) 2 (omega (arith, length-drop at t)), getD-drop at t 1 0, lt-ltb (getD t (at + 1) 0) lo h)
+
+    pub count-high : lo ≤ getD t (at + 1) 0 → hi < getD t (at + 1) 0 → 5 ≡ countFault lo hi (drop at t)
+    unfolding countFault
+    count-high l h = rw (le-ltb (length (drop at t)) 2 (omega (arith, length-drop at t)), getD-drop at t 1 0, le-ltb (getD t (at + 1) 0) lo l, lt-ltb hi (getD t (at + 1) 0) h)
+
+    pub count-right : lo ≤ getD t (at + 1) 0 → getD t (at + 1) 0 ≤ hi → 0 ≡ countFault lo hi (drop at t)
+    unfolding countFault
+    count-right l h = rw (le-ltb (length (drop at t)) 2 (omega (arith, length-drop at t)), getD-drop at t 1 0, le-ltb (getD t (at + 1) 0) lo l, le-ltb hi (getD t (at + 1) 0) h)
+
+-- what no fault says
+pub record Counts (lo hi : ℕ) (t : List ℕ) (at : ℕ) : Type 0 where
+  pub fits : at + 2 ≤ length t
+  pub low : lo ≤ getD t (at + 1) 0
+  pub high : getD t (at + 1) 0 ≤ hi
+
+pub count-inv : (lo hi : ℕ) (t : List ℕ) (at : ℕ) → countFault lo hi (drop at t) ≡ 0 → Counts lo hi t at
+unfolding countFault
+count-inv lo hi t at e =
+    by-test (ltb (length (drop at t)) 2)
+    (λ s. let z : 3 ≡ 0 = rw s at e in absurd (omega arith))
+    (λ s. let e₁ : cond (outside lo hi (getD (drop at t) 1 0)) 5 0 ≡ 0 = rw s at e in
+    by-test (ltb (getD (drop at t) 1 0) lo)
+    (λ a. let z : 5 ≡ 0 = rw a at e₁ in absurd (omega arith))
+    (λ a. by-test (ltb hi (getD (drop at t) 1 0))
+    (λ b. let z : 5 ≡ 0 = rw (a, b) at e₁ in absurd (omega arith))
+    (λ b.
+    let f : 2 ≤ length (drop at t) = ltb-false (length (drop at t)) 2 s in
+    let l : lo ≤ getD (drop at t) 1 0 = ltb-false (getD (drop at t) 1 0) lo a in
+    let h : getD (drop at t) 1 0 ≤ hi = ltb-false hi (getD (drop at t) 1 0) b in
+    record { fits = omega (arith, length-drop at t); low = omega (arith, getD-drop at t 1 0); high = omega (arith, getD-drop at t 1 0) })))
+
+-- ---- lists and complements
+
+fault-is : {L : Type 0} (r : ℕ) (h : Head L) → (r ≡ 0 → ⊥) → faultOr r h ≡ fault r
+fault-is zero h n = absurd (n refl)
+fault-is (suc r) h n = refl
+
+module _ {L : Type 0} (c : Bool) (t : List ℕ) (at code : ℕ) (e : code ≡ countFault 1 64 (drop at t)) where
+  pub group-fault : (n next : ℕ) → (code ≡ 0 → ⊥) → HeadAt {L = L} t (groupHead c (drop at t)) code n next
+  unfolding groupHead
+  group-fault n next z = faulty (ap (λ r. faultOr r (group c (getD (drop at t) 1 0) (drop 2 (drop at t)))) (sym e) ∙ fault-is code _ z) (omega (arith, z))
+
+  pub group-right : code ≡ 0 → HeadAt {L = L} t (groupHead c (drop at t)) 0 (getD t (at + 1) 0) (at + 2)
+  unfolding groupHead
+  group-right z =
+      let v = count-inv 1 64 t at (sym e ∙ z) in
+      let q : groupHead {L = L} c (drop at t) ≡ group c (getD t (at + 1) 0) (drop (at + 2) t) = rw (sym e ∙ z, getD-drop at t 1 0, drop-drop 2 at t) in
+      aGroup c q refl (v .low) (v .fits)
+
+-- ---- the kind decides
+
+module _ {L : Type 0} (leaves : List ℕ → Head L) (t : List ℕ) (at : ℕ) where
+  pub head-none : length t ≤ at → head leaves (drop at t) ≡ fault 3
+  unfolding head
+  head-none h = rw (eq-eqb (length (drop at t)) 0 (omega (arith, length-drop at t)))
+
+  module _ (some : at < length t) where
+    pub head-list : getD t at 0 ≡ 4 → head leaves (drop at t) ≡ groupHead false (drop at t)
+    unfolding head
+    head-list k = rw (ne-eqb (length (drop at t)) 0 (λ z. omega (arith, length-drop at t)), kind-at t at, k)
+
+    pub head-complement : getD t at 0 ≡ 5 → head leaves (drop at t) ≡ groupHead true (drop at t)
+    unfolding head
+    head-complement k = rw (ne-eqb (length (drop at t)) 0 (λ z. omega (arith, length-drop at t)), kind-at t at, k)
+
+    pub head-leaf : (getD t at 0 ≡ 4 → ⊥) → (getD t at 0 ≡ 5 → ⊥) → head leaves (drop at t) ≡ leaves (drop at t)
+    unfolding head
+    head-leaf n4 n5 = rw (ne-eqb (length (drop at t)) 0 (λ z. omega (arith, length-drop at t)), kind-at t at, ne-eqb (getD t at 0) 4 n4, ne-eqb (getD t at 0) 5 n5)
+
+pub head-as : {L : Type 0} (t : List ℕ) (h g : Head L) (code n next : ℕ) → h ≡ g → HeadAt t g code n next → HeadAt t h code n next
+head-as t h g code n next e a = rw e a
+
+-- ---- leaves of the integer family
+
+module _ (t : List ℕ) (at : ℕ) where
+  module _ (k : getD t at 0 ≡ 1) where
+    is-single : leafHead (drop at t) ≡ singleHead (drop at t)
+    unfolding leafHead
+    is-single = rw (kind-at t at, k)
+
+    pub single-short : (n next : ℕ) → length t - at < 5 → HeadAt t (leafHead (drop at t)) 3 n next
+    unfolding singleHead
+    single-short n next h =
+        let q : singleHead (drop at t) ≡ fault 3 = rw (lt-ltb (length (drop at t)) 5 (omega (arith, length-drop at t))) in
+        faulty (is-single ∙ q) (omega arith)
+
+    pub single-right : 5 ≤ length t - at → HeadAt t (leafHead (drop at t)) 0 0 (at + 5)
+    unfolding singleHead
+    single-right h =
+        let q : singleHead (drop at t) ≡ leafHere (single (intAt (drop at t) 1)) (drop (at + 5) t) = rw (le-ltb (length (drop at t)) 5 (omega (arith, length-drop at t)), drop-drop 5 at t) in
+        aLeaf _ (is-single ∙ q) refl refl (omega arith)
+
+  module _ (k : getD t at 0 ≡ 2) where
+    is-range : leafHead (drop at t) ≡ rangeHead (drop at t)
+    unfolding leafHead
+    is-range = rw (kind-at t at, k)
+
+    pub range-short : (n next : ℕ) → length t - at < 9 → HeadAt t (leafHead (drop at t)) 3 n next
+    unfolding rangeHead
+    range-short n next h =
+        let q : rangeHead (drop at t) ≡ fault 3 = rw (lt-ltb (length (drop at t)) 9 (omega (arith, length-drop at t))) in
+        faulty (is-range ∙ q) (omega arith)
+
+    order-at : (b : Bool) → ltZ (intAt t (at + 5)) (intAt t (at + 1)) ≡ b → ltZ (intAt (drop at t) 5) (intAt (drop at t) 1) ≡ b
+    order-at b e = rw (intAt-drop t at 5, intAt-drop t at 1) e
+
+    pub range-reversed : (n next : ℕ) → 9 ≤ length t - at → ltZ (intAt t (at + 5)) (intAt t (at + 1)) ≡ true → HeadAt t (leafHead (drop at t)) 6 n next
+    unfolding rangeHead
+    range-reversed n next h e =
+        let q : rangeHead (drop at t) ≡ fault 6 = rw (le-ltb (length (drop at t)) 9 (omega (arith, length-drop at t)), order-at true e) in
+        faulty (is-range ∙ q) (omega arith)
+
+    pub range-right : 9 ≤ length t - at → ltZ (intAt t (at + 5)) (intAt t (at + 1)) ≡ false → HeadAt t (leafHead (drop at t)) 0 0 (at + 9)
+    unfolding rangeHead
+    range-right h e =
+        let q : rangeHead (drop at t) ≡ leafHere (range (intAt (drop at t) 1) (intAt (drop at t) 5)) (drop (at + 9) t) =
+        rw (le-ltb (length (drop at t)) 9 (omega (arith, length-drop at t)), order-at false e, drop-drop 9 at t) in
+        aLeaf _ (is-range ∙ q) refl refl (omega arith)
+
+  pub any-right : getD t at 0 ≡ 3 → at < length t → HeadAt t (leafHead (drop at t)) 0 0 (at + 1)
+  unfolding leafHead
+  any-right k h =
+      let q : leafHead (drop at t) ≡ leafHere any (drop (at + 1) t) = rw (kind-at t at, k, drop-drop 1 at t) in
+      aLeaf _ q refl refl (omega arith)
+
+  pub unknown-kind : (n next : ℕ) → (getD t at 0 ≡ 1 → ⊥) → (getD t at 0 ≡ 2 → ⊥) → (getD t at 0 ≡ 3 → ⊥) → HeadAt t (leafHead (drop at t)) 4 n next
+  unfolding leafHead
+  unknown-kind n next n1 n2 n3 =
+      let q : leafHead (drop at t) ≡ fault 4 = rw (kind-at t at, ne-eqb (getD t at 0) 1 n1, ne-eqb (getD t at 0) 2 n2, ne-eqb (getD t at 0) 3 n3) in
+      faulty q (omega arith)

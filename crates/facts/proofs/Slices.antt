@@ -1,0 +1,37 @@
+-- A piece of a list: its places, what it counts where nothing is counted outside it, and a piece cut at a middle place. Assumes nothing.
+use mathlib.Core.Path.{_≡_, sym, ap, _∙_}
+use mathlib.Core.Bool.{false}
+use mathlib.Core.List.{List, _++_}
+use Prim.Native.Nat.{ℕ, _+_, _-_, _≤_, _<_}
+use native.Mathlib.Omega.{arith}
+use lib.ListN.{length, getD, take, drop, length-take, length-drop, take-append-drop}
+use lib.Seq.{slice, getD-take, getD-drop, take-take, drop-append-le}
+use Rattle.facts.specs.Counting.{between, cnt}
+use Rattle.facts.proofs.Cases.{not-so}
+use Rattle.facts.proofs.Spans.{between-from, between-to}
+use Rattle.facts.proofs.Counting.{cnt-append, cnt-none}
+
+pub slice-at : (from to : ℕ) (w : List ℕ) (i : ℕ) → i < to - from → getD (slice from to w) i 0 ≡ getD w (from + i) 0
+slice-at from to w i l = getD-drop from (take to w) i 0 ∙ getD-take to w (from + i) 0 (omega arith)
+
+pub cnt-slice : (v from to : ℕ) (w : List ℕ) → from ≤ to → to ≤ length w → ((i : ℕ) → i < length w → between from to i ≡ false → getD w i 0 ≡ v → ⊥) → cnt v (slice from to w) ≡ cnt v w
+cnt-slice v from to w l k out =
+    let whole = ap (λ (x : List ℕ). cnt v x) (take-append-drop to w) in
+    let first-part = ap (λ (x : List ℕ). cnt v x) (take-append-drop from (take to w)) in
+    let a = cnt-append v (take to w) (drop to w) in
+    let b = cnt-append v (take from (take to w)) (slice from to w) in
+    let m = length-take to w in
+    let left : cnt v (take from (take to w)) ≡ 0 = cnt-none v (take from (take to w)) (λ e z q.
+    let n = length-take from (take to w) in
+    let e1 : getD (take from (take to w)) e 0 ≡ getD w e 0 = getD-take from (take to w) e 0 (omega arith) ∙ getD-take to w e 0 (omega arith) in
+    out e (omega arith) (not-so (between from to e) (λ b. let f = between-from from to e b in omega arith)) (sym e1 ∙ q)) in
+    let right : cnt v (drop to w) ≡ 0 = cnt-none v (drop to w) (λ e z q.
+    let n = length-drop to w in
+    out (to + e) (omega arith) (not-so (between from to (to + e)) (λ b. let f = between-to from to (to + e) b in omega arith)) (sym (getD-drop to w e 0) ∙ q)) in
+    omega arith
+
+pub slice-split : (from e to : ℕ) (w : List ℕ) → from ≤ e → e ≤ to → to ≤ length w → slice from to w ≡ slice from e w ++ slice e to w
+slice-split from e to w f l k =
+    let whole : take to w ≡ take e w ++ slice e to w = sym (take-append-drop e (take to w)) ∙ ap (λ (x : List ℕ). x ++ slice e to w) (take-take e to w l) in
+    let n = length-take e w in
+    ap (λ (x : List ℕ). drop from x) whole ∙ drop-append-le from (take e w) (slice e to w) (omega arith)

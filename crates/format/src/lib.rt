@@ -1,0 +1,103 @@
+// Every kind of record, every number given back and every limit of document 01, once. There is no function here.
+
+// ---- kinds of records: element templates, bodies, items, the length attribute
+pub const SINGLE: u8 = 0x01;
+
+pub const RANGE: u8 = 0x02;
+
+pub const ANY: u8 = 0x03;
+
+pub const LIST: u8 = 0x04;
+
+pub const COMPLEMENT: u8 = 0x05;
+
+pub const RECORD_OF: u8 = 0x10;
+
+pub const SET_OF: u8 = 0x11;
+
+pub const SUPERSET: u8 = 0x12;
+
+pub const SUBSET: u8 = 0x13;
+
+pub const STARS: u8 = 0x20;
+
+pub const PERMUTATION: u8 = 0x21;
+
+pub const LENGTH: u8 = 0x30;
+
+// ---- kinds of the program's input
+pub const VALUES: u8 = 0x40;
+
+pub const TEMPLATE: u8 = 0x50;
+
+// ---- bytes of a record, its kind and its body: a record with a count is one of 04, 05, 10 to 13, 21 and 40, one with bounds a 20 or a 30
+pub const SINGLE_SIZE: usize = 5;
+
+pub const RANGE_SIZE: usize = 9;
+
+pub const ANY_SIZE: usize = 1;
+
+pub const COUNT_SIZE: usize = 2;
+
+pub const BOUNDS_SIZE: usize = 3;
+
+pub const TEMPLATE_SIZE: usize = 3;
+
+// ---- numbers given back. 0 says that nothing is at fault: matched, obeys, done, or accepted so far
+pub const DONE: u8 = 0;
+
+pub const NO_MATCH: u8 = 1;
+
+pub const TOO_LONG: u8 = 2;
+
+pub const MISSING: u8 = 3;
+
+pub const BAD_KIND: u8 = 4;
+
+pub const BAD_COUNT: u8 = 5;
+
+pub const BAD_BOUNDS: u8 = 6;
+
+pub const TOO_DEEP: u8 = 7;
+
+pub const TOO_MANY: u8 = 8;
+
+pub const LENGTH_CLASH: u8 = 9;
+
+pub const LEFT_OVER: u8 = 10;
+
+pub const LIST_TOO_LONG: u8 = 11;
+
+pub const ROOM_TOO_SHORT: u8 = 12;
+
+pub const OTHER_LENGTH: u8 = 13;
+
+// ---- limits. Leaves and members are numbered from 0, so the last of 64 leaves is 63 and the last of 32 members 31
+pub const TEMPLATE_MOST: usize = 4096;
+
+pub const INPUT_MOST: usize = 65536;
+
+pub const LIST_MOST: usize = 32;
+
+// The same as a byte: of min and max, and of n in a list of the input.
+pub const LENGTH_MOST: u8 = 32;
+
+pub const ITEMS_MOST: u8 = 32;
+
+pub const GROUP_MOST: u8 = 64;
+
+pub const DEPTH_MOST: usize = 8;
+
+pub const LAST_LEAF: usize = 63;
+
+pub const LAST_MEMBER: usize = 31;
+
+// ---- bytes with a meaning of their own: no bound above, and an element that no member has
+pub const INFINITY: u8 = 255;
+
+pub const SPARE: u8 = 255;
+
+// ---- the ends of the 32-bit integers
+pub const LEAST: i32 = -2147483648;
+
+pub const GREATEST: i32 = 2147483647;

@@ -1,0 +1,117 @@
+-- The ranges of an element template hold exactly the integers that it matches, are ascending, and have at most two edges for each leaf:
+-- a leaf has two, joining adds none, a complement has those of what it leaves out. Assumes nothing.
+use mathlib.Core.Path.{_≡_, refl, sym, ap, ap₂, _∙_}
+use mathlib.Core.Bool.{Bool, false, not, _&&_, _||_, or-false}
+use mathlib.Core.List.{List, [], _∷_}
+use mathlib.Core.Logic.{⊎-elim}
+use Prim.Native.Nat.{ℕ, _+_, _-_, _*_, _≤_, _<_, min}
+use native.Mathlib.Omega.{arith}
+use lib.Dec.{leb, eqb}
+use lib.IntN.{ℤ}
+use lib.Signed.{leZ, _≤ℤ_}
+use lib.ListN.{length}
+use borrow.Author.Tests.{le-leb, lt-leb, eq-eqb, ne-eqb}
+use Rattle.ranges.specs.Spans.{Span, span, least, greatest, holds, Ascending, joinAll, gaps, edges}
+use Rattle.ranges.proofs.JoinsAndGaps.{of-rank, ascending-joined, holds-joined, edges-joined, proper-of, holds-gaps, ascending-gaps, edges-gaps, length-edges, length-edges-above, unique}
+use Rattle.elements.specs.Element.{Elem, leaf, oneOf, noneOf, Elems, none, more, leaves, leavesAll}
+use Rattle.elements.specs.Leaf.{Leaf, single, range, any}
+use Rattle.elements.specs.Matches.{matchesBy, leafMatches, matches, anyMatches}
+use Rattle.integers.specs.Integer.{Word}
+use Rattle.integers.specs.Rank.{rank}
+use Rattle.facts.proofs.Cases.{below}
+use Rattle.integers.proofs.Ranks.{low, rank-word, low-leZ, rank-leZ, low-eqZ}
+use Rattle.forms.specs.Matched.{leafRanges, rangesOf, rangesOfAll}
+use Rattle.forms.proofs.Accepts.{GoodLeaf, Good, GoodAll}
+
+pub record SetOf (rs : List Span) (f : ℤ → Bool) (c : ℕ) : Type 0 where
+  pub ascending : Ascending rs
+  pub right : (x : ℤ) → Word x → holds rs x ≡ f x
+  pub few : edges rs ≤ c
+
+-- ---- leaves
+
+one-integer : (a x : ℕ) → ((leb a x && leb x a) || false) ≡ eqb a x
+one-integer a x =
+    ⊎-elim
+    (λ (h : x < a). rw (lt-leb a x h) (sym (ne-eqb a x (λ e. omega arith))))
+    (λ (h : a ≤ x).
+    rw (le-leb a x h)
+    (⊎-elim
+    (λ (k : a < x). rw (lt-leb x a k) (sym (ne-eqb a x (λ e. omega arith))))
+    (λ (k : x ≤ a). rw (le-leb x a k) (sym (eq-eqb a x (omega arith))))
+    (below a x)))
+    (below x a)
+
+two-edges : (a b : ℕ) → min a 1 + (min (4294967295 - b) 1 + 0) ≤ 2
+two-edges a b = omega arith
+
+ascending-one : (a b : ℤ) → Word a → Word b → a ≤ℤ b → Ascending (span a b ∷ [])
+ascending-one a b p q o =
+    (of-rank least a (omega arith) (low a p) (omega arith), o, of-rank b greatest (low b q) tt (omega (arith, rank-word b q)), tt)
+
+≤ℤ-same : (a : ℤ) → Word a → a ≤ℤ a
+≤ℤ-same a p = of-rank a a (low a p) (low a p) (omega arith)
+
+pub leaf-set : (l : Leaf) → GoodLeaf l → SetOf (leafRanges l) (leafMatches l) 2
+unfolding leafMatches
+leaf-set (single z) g = record {
+  ascending = ascending-one z z g g (≤ℤ-same z g);
+  right = λ x w. rw (rank-leZ z x g w, rank-leZ x z w g, low-eqZ z x (low z g) (low x w)) (one-integer (rank z) (rank x));
+  few = two-edges (rank z) (rank z);
+}
+leaf-set (range a b) g = record {
+  ascending = ascending-one a b (g .0) (g .1) (g .2);
+  right = λ x w. or-false (leZ a x && leZ x b);
+  few = two-edges (rank a) (rank b);
+}
+leaf-set any g = record {
+  ascending = ascending-one least greatest (omega arith) (omega arith) (of-rank least greatest (omega arith) tt (omega arith));
+  right = λ x w. rw (low-leZ least x (omega arith) (low x w), low-leZ x greatest (low x w) tt, le-leb 0 (rank x) (omega arith), le-leb (rank x) 4294967295 (omega (arith, rank-word x w)));
+  few = two-edges 0 4294967295;
+}
+
+-- ---- joining and gaps
+
+pub empty-set : SetOf [] (λ x. false) 0
+empty-set = record { ascending = tt; right = λ x w. refl; few = omega arith }
+
+pub join-set : (rs ss : List Span) (f g : ℤ → Bool) (c d : ℕ) → SetOf rs f c → SetOf ss g d → SetOf (joinAll rs ss) (λ x. f x || g x) (c + d)
+join-set rs ss f g c d p q = record {
+  ascending = ascending-joined rs ss (proper-of rs (p .ascending)) (q .ascending);
+  right = λ x w. holds-joined rs ss x (proper-of rs (p .ascending)) (q .ascending) w ∙ ap₂ (λ (a b : Bool). a || b) (p .right x w) (q .right x w);
+  few = omega (arith, edges-joined rs ss (proper-of rs (p .ascending)) (q .ascending), p .few, q .few);
+}
+
+pub gaps-set : (rs : List Span) (f : ℤ → Bool) (c : ℕ) → SetOf rs f c → SetOf (gaps rs) (λ x. not (f x)) c
+gaps-set rs f c p = record {
+  ascending = ascending-gaps rs (p .ascending);
+  right = λ x w. holds-gaps rs (p .ascending) x w ∙ ap not (p .right x w);
+  few = omega (arith, edges-gaps rs (p .ascending), p .few);
+}
+
+-- ---- element templates
+
+mutual
+  unfolding rangesOf matchesBy Good leaves
+
+  pub elem-set : (e : Elem Leaf) → Good e → SetOf (rangesOf e) (matches e) (2 * leaves e)
+  elem-set (leaf l) g = leaf-set l g
+  elem-set (oneOf es) g = all-set es g
+  elem-set (noneOf es) g = gaps-set (rangesOfAll es) (anyMatches es) (2 * leavesAll es) (all-set es g)
+
+  pub all-set : (es : Elems Leaf) → GoodAll es → SetOf (rangesOfAll es) (anyMatches es) (2 * leavesAll es)
+  all-set none g = empty-set
+  all-set (more e es) g =
+      let s = join-set (rangesOf e) (rangesOfAll es) (matches e) (anyMatches es) (2 * leaves e) (2 * leavesAll es) (elem-set e (g .0)) (all-set es (g .1)) in
+      record { ascending = s .ascending; right = s .right; few = omega (arith, s .few) }
+
+-- ---- a set has one list of ranges, and it is not long
+
+pub same-set : (rs ss : List Span) (f g : ℤ → Bool) (c d : ℕ) → SetOf rs f c → SetOf ss g d → ((x : ℤ) → Word x → f x ≡ g x) → rs ≡ ss
+same-set rs ss f g c d p q e = unique rs ss (p .ascending) (q .ascending) (λ x w. p .right x w ∙ e x w ∙ sym (q .right x w))
+
+pub set-length : (rs : List Span) (f : ℤ → Bool) (c : ℕ) → SetOf rs f (2 * c) → length rs ≤ c + 1
+set-length rs f c p = omega (arith, length-edges rs (p .ascending), p .few)
+
+pub set-length-above : (rs : List Span) (f : ℤ → Bool) (c : ℕ) → SetOf rs f (2 * c) → holds rs least ≡ false → length rs ≤ c
+set-length-above rs f c p e = omega (arith, length-edges-above rs (p .ascending) e, p .few)

@@ -1,0 +1,33 @@
+-- What the normaliser gives back (document 01, "Numbers given back").
+-- Answer          == a number, a length, and the room as it is afterwards
+-- placed f room   == the form f written to the room: 12 where the room is shorter, else 0
+-- answerTo o room == the answer to an input that reads as o
+-- normalised t room == the answer to the template bytes t and the room
+-- Assumes nothing: these are definitions.
+use Prim.Native.Nat.{ℕ}
+use mathlib.Core.List.{List, _++_}
+use mathlib.Core.Bool.{cond}
+use lib.Dec.{ltb}
+use lib.ListN.{length, drop}
+use Rattle.elements.specs.Element.{Elem}
+use Rattle.elements.specs.Leaf.{Leaf, leafHead}
+use Rattle.elements.specs.Read.{Read, refuse, got}
+use Rattle.elements.specs.Reading.{readElement}
+use Rattle.forms.specs.Form.{normalForm}
+
+pub data Answer : Type 0 where
+  answer : ℕ → ℕ → List ℕ → Answer
+
+-- "No number but 0 changes the room. With 0 .. the bytes of its form; the rest of the room stays."
+unfoldable pub placed : List ℕ → List ℕ → Answer
+placed f room =
+    cond (ltb (length room) (length f)) (answer 12 0 room)
+    (answer 0 (length f) (f ++ drop (length f) room))
+
+-- "its 12 comes last, after 10"
+unfoldable pub answerTo : Read (Elem Leaf) → List ℕ → Answer
+answerTo (refuse r) room = answer r 0 room
+answerTo (got e rest) room = placed (normalForm e) room
+
+unfoldable pub normalised : List ℕ → List ℕ → Answer
+normalised t room = answerTo (readElement leafHead t) room

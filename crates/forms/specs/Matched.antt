@@ -1,0 +1,26 @@
+-- The maximal ranges of what an element template matches (document 01, "The normal form": "A maximal range is a run of matched integers
+-- that can't be widened").
+-- leafRanges l   == those of the leaf l
+-- rangesOf e     == those of the element template e
+-- rangesOfAll es == those of what at least one of es matches
+-- That they are the maximal ranges of what `matches` says is the claim `Maximal` of crate `promises`.
+-- Assumes nothing: these are definitions.
+use mathlib.Core.List.{List, [], _∷_}
+use Rattle.elements.specs.Element.{Elem, leaf, oneOf, noneOf, Elems, none, more}
+use Rattle.elements.specs.Leaf.{Leaf, single, range, any}
+use Rattle.ranges.specs.Spans.{Span, span, least, greatest, joinAll, gaps}
+
+abbrev pub leafRanges : Leaf → List Span
+leafRanges (single z) = span z z ∷ []
+leafRanges (range lower upper) = span lower upper ∷ []
+leafRanges any = span least greatest ∷ []
+
+unfoldable mutual
+  pub rangesOf : Elem Leaf → List Span
+  rangesOf (leaf l) = leafRanges l
+  rangesOf (oneOf es) = rangesOfAll es
+  rangesOf (noneOf es) = gaps (rangesOfAll es)
+
+  pub rangesOfAll : Elems Leaf → List Span
+  rangesOfAll none = []
+  rangesOfAll (more e es) = joinAll (rangesOf e) (rangesOfAll es)

@@ -1,0 +1,196 @@
+// The bytes of a normal form. Each record writer is lent the part of the output from the current place on.
+ghost use mathlib.Core.Path.{_≡_};
+ghost use mathlib.Core.List.{_∷_, _++_};
+ghost use Prim.Native.Nat.{_+_, _<_, _≤_};
+ghost use lib.ListN.{length, drop};
+ghost use Rattle.integers.specs.Integer.{intBytes};
+ghost use Rattle.ranges.specs.Spans.{span};
+ghost use Rattle.ranges.specs.Shown.{spans};
+ghost use Rattle.forms.specs.Form.{recordOf, records, matchedForm, unmatchedForm, recordLength, recordsLength, matchedLength, unmatchedLength, sideForm, sideLength};
+use format::ANY;
+use format::COMPLEMENT;
+use format::LIST;
+use format::RANGE;
+use format::RANGE_SIZE;
+use format::SINGLE;
+use format::SINGLE_SIZE;
+use integers::put_int;
+use integers::same;
+use ranges::Ranges;
+
+// The record of one integer, at the front of `out`.
+fn put_single(out: &mut [u8], x: i32)
+    requires { ⌜ 5 ≤ length (now out) ⌝ }
+    ensures { λ _. ⌜ now (out .exit) ≡ 0x01 ∷ (intBytes x ++ drop 5 (now (out .entry))) ⌝ }
+{
+    out[0] = SINGLE;
+    put_int(&mut out[1..], x);
+}
+
+// The record of a range of two integers or more, at the front of `out`.
+fn put_range(out: &mut [u8], lower: i32, upper: i32)
+    requires { ⌜ 9 ≤ length (now out) ⌝ }
+    ensures { λ _. ⌜ now (out .exit) ≡ 0x02 ∷ (intBytes lower ++ (intBytes upper ++ drop 9 (now (out .entry)))) ⌝ }
+{
+    out[0] = RANGE;
+    put_int(&mut out[1..], lower);
+    put_int(&mut out[5..], upper);
+}
+
+// How many bytes the record of the range has.
+fn record_length(lower: i32, upper: i32) -> usize
+    ensures { λ r. ⌜ r ≡ recordLength (span lower upper) ⌝ }
+{
+    if same(lower, upper) {
+        SINGLE_SIZE
+    } else {
+        RANGE_SIZE
+    }
+}
+
+// The record of the range, at the front of `out`.
+fn put_record(out: &mut [u8], lower: i32, upper: i32)
+    requires { ⌜ recordLength (span lower upper) ≤ length (now out) ⌝ }
+    ensures { λ _. ⌜ now (out .exit) ≡ recordOf (span lower upper) ++ drop (recordLength (span lower upper)) (now (out .entry)) ⌝ }
+{
+    if same(lower, upper) {
+        put_single(out, lower);
+    } else {
+        put_range(out, lower, upper);
+    }
+}
+
+// How many bytes the records of s have.
+fn records_length(s: Ranges) -> usize
+    requires { ⌜ s .n < 130 ⌝ }
+    ensures { λ r. ⌜ r ≡ recordsLength (spans s) ⌝ }
+{
+    let n = s.n;
+    let mut length: usize = 0;
+    let mut k: usize = 0;
+    while k < n {
+        let a = s.lo[k];
+        let b = s.hi[k];
+        length += record_length(a, b);
+        k += 1;
+    }
+    length
+}
+
+// The records of s, at the front of `out`.
+fn put_records(out: &mut [u8], s: Ranges)
+    requires { ⌜ (s .n < 130) × (recordsLength (spans s) ≤ length (now out)) ⌝ }
+    ensures { λ _. ⌜ now (out .exit) ≡ records (spans s) ++ drop (recordsLength (spans s)) (now (out .entry)) ⌝ }
+{
+    let n = s.n;
+    let mut p: usize = 0;
+    let mut k: usize = 0;
+    while k < n {
+        let a = s.lo[k];
+        let b = s.hi[k];
+        put_record(&mut out[p..], a, b);
+        p += record_length(a, b);
+        k += 1;
+    }
+}
+
+// A list or a complement of the ranges of s, at the front of `out`.
+fn put_group(out: &mut [u8], kind: u8, s: Ranges)
+    requires { ⌜ (s .n < 130) × (2 + recordsLength (spans s) ≤ length (now out)) ⌝ }
+    ensures { λ _. ⌜ now (out .exit) ≡ kind ∷ s .n ∷ (records (spans s) ++ drop (2 + recordsLength (spans s)) (now (out .entry))) ⌝ }
+{
+    out[0] = kind;
+    out[1] = s.n as u8;
+    put_records(&mut out[2..], s);
+}
+
+// How many bytes the form has that is written from the integers matched.
+fn matched_length(s: Ranges) -> usize
+    requires { ⌜ s .n < 130 ⌝ }
+    ensures { λ r. ⌜ r ≡ matchedLength (spans s) ⌝ }
+{
+    let n = s.n;
+    if n == 0 {
+        return 3;
+    }
+    if n == 1 {
+        let a = s.lo[0];
+        let b = s.hi[0];
+        return record_length(a, b);
+    }
+    2 + records_length(s)
+}
+
+// How many bytes the form has that is written from the integers not matched.
+fn unmatched_length(s: Ranges) -> usize
+    requires { ⌜ s .n < 130 ⌝ }
+    ensures { λ r. ⌜ r ≡ unmatchedLength (spans s) ⌝ }
+{
+    if s.n == 0 {
+        return 1;
+    }
+    2 + records_length(s)
+}
+
+// The form of no integer at all, at the front of `out`: a complement of any value.
+fn put_nothing(out: &mut [u8])
+    requires { ⌜ 3 ≤ length (now out) ⌝ }
+    ensures { λ _. ⌜ now (out .exit) ≡ 0x05 ∷ 0x01 ∷ 0x03 ∷ drop 3 (now (out .entry)) ⌝ }
+{
+    out[0] = COMPLEMENT;
+    out[1] = 1;
+    out[2] = ANY;
+}
+
+// The form from the integers matched, at the front of `out`.
+fn put_matched(out: &mut [u8], s: Ranges)
+    requires { ⌜ (s .n < 130) × (matchedLength (spans s) ≤ length (now out)) ⌝ }
+    ensures { λ _. ⌜ now (out .exit) ≡ matchedForm (spans s) ++ drop (matchedLength (spans s)) (now (out .entry)) ⌝ }
+{
+    let n = s.n;
+    if n == 0 {
+        put_nothing(out);
+    } else if n == 1 {
+        let a = s.lo[0];
+        let b = s.hi[0];
+        put_record(out, a, b);
+    } else {
+        put_group(out, LIST, s);
+    }
+}
+
+// The form from the integers not matched, at the front of `out`.
+fn put_unmatched(out: &mut [u8], s: Ranges)
+    requires { ⌜ (s .n < 130) × (unmatchedLength (spans s) ≤ length (now out)) ⌝ }
+    ensures { λ _. ⌜ now (out .exit) ≡ unmatchedForm (spans s) ++ drop (unmatchedLength (spans s)) (now (out .entry)) ⌝ }
+{
+    if s.n == 0 {
+        out[0] = ANY;
+    } else {
+        put_group(out, COMPLEMENT, s);
+    }
+}
+
+// How many bytes the form has that is written from s: from the integers not matched, or from those matched.
+pub fn form_length(outside: bool, s: Ranges) -> usize
+    requires { ⌜ s .n < 130 ⌝ }
+    ensures { λ r. ⌜ r ≡ sideLength outside (spans s) ⌝ }
+{
+    if outside {
+        unmatched_length(s)
+    } else {
+        matched_length(s)
+    }
+}
+
+// The form that is written from s, at the front of `out`.
+pub fn put_form(out: &mut [u8], outside: bool, s: Ranges)
+    requires { ⌜ (s .n < 130) × (sideLength outside (spans s) ≤ length (now out)) ⌝ }
+    ensures { λ _. ⌜ now (out .exit) ≡ sideForm outside (spans s) ++ drop (sideLength outside (spans s)) (now (out .entry)) ⌝ }
+{
+    if outside {
+        put_unmatched(out, s);
+    } else {
+        put_matched(out, s);
+    }
+}

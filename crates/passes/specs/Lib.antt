@@ -1,4 +1,0 @@
--- The definitions of `passes`: what its functions give on the way. What it promises is said by the definitions of `cuts`.
--- Reach == the places that the blocks so far reach in an offered list, and what stands in a piece of it
--- Assumes nothing: these are definitions.
-pub mod Reach

@@ -1,2 +1,0 @@
--- Claims == the demands and the table, proved
-pub mod Claims

@@ -1,0 +1,90 @@
+-- The claims of specs/Claims.antt, proved. Assumes nothing.
+use mathlib.Core.Path.{_≡_, refl, sym, ap, _∙_, subst}
+use mathlib.Core.Bool.{Bool}
+use mathlib.Core.Logic.{⊎-elim}
+use mathlib.Core.List.{List, []}
+use Prim.Native.Nat.{ℕ}
+use lib.IntN.{ℤ}
+use Rattle.elements.specs.Leaf.{Leaf, leafHead}
+use Rattle.template.specs.Template.{Template}
+use Rattle.elements.specs.Read.{got}
+use Rattle.template.specs.Whole.{readTemplate}
+use Rattle.template.proofs.RefusalNumbers.{Cases, isRefused, isRead, read-cases}
+use Rattle.matching.proofs.Answers.{few-members}
+use Rattle.reasons.specs.Reason.{ShortGroup, Chosen}
+use Rattle.why.specs.Why.{Asked, ofNothing, ofGroups, askedOf, GroupOf, GroupRead, numberOf, WhyOf}
+use Rattle.why.proofs.Obeyed.{asked-question, explained-asked}
+use Rattle.why.proofs.NumberAndGroup.{ownRoom, own-enough, one-behind, one-where, asked-group, given-one, empty-not-short}
+use Rattle.reasons.proofs.Groups.{reason-exists, reason-same, reason-short}
+use Rattle.reasons.proofs.Closures.{most-shortfall}
+use Rattle.reasons.proofs.Choices.{chosen-never}
+use Rattle.reasons.proofs.Hall as hall-theorem
+use Rattle.why.specs.Unmatched.{Unmatched, Explained}
+use Rattle.reason_claims.specs.Claims.{Exists, OnlyOne, Explains, Greatest, Hall, GivenWhere, GivenShort, NoneShorter, InsideOthers, NumberAgrees, ShortExactly}
+
+-- ---- groups
+pub exists : Exists
+exists = reason-exists
+
+pub onlyOne : OnlyOne
+onlyOne ok k n G H = reason-same
+
+pub explains : Explains
+explains ok k n G H = reason-short
+
+pub greatest : Greatest
+greatest ok k n w U G few short d g = most-shortfall few short d (g .most)
+
+pub hall : Hall
+hall ok k n few short = (
+  λ G s f c. chosen-never few short c s,
+  λ never. ⊎-elim (λ (c : (f : ℕ → ℕ) × Chosen ok k n f). absurd (never (c .0) (c .1))) (λ (s : (G : ℕ → Bool) × ShortGroup ok k n G). s) (hall-theorem.hall ok k n few),
+)
+
+-- ---- why not
+-- what stands behind a group
+behind : (t : List ℕ) (xs : List ℤ) (r g : ℕ) → WhyOf t xs r g → (g ≡ 0 → ⊥) → (s : Template Leaf) × Unmatched t xs s × Explained s xs
+unfolding GroupRead GroupOf
+behind t xs r g h some = read (read-cases t)
+  where
+    asked : (s : Template Leaf) → readTemplate leafHead t ≡ got s [] → (a : Asked) → askedOf s xs ≡ a → (s : Template Leaf) × Unmatched t xs s × Explained s xs
+    asked s q ofNothing e = absurd (some (subst (λ a. GroupOf a r g) e (subst (λ o. GroupRead o xs r g) q (h .group))))
+    asked s q (ofGroups ok k n) e =
+        let u = one-behind t xs (ownRoom xs) s (λ _. own-enough xs) (h .number (ownRoom xs) (own-enough xs) ∙ given-one h some q e .0) q in
+        (s, u, asked-question (few-members t s q) (u .taken .1) e .explained)
+
+    read : Cases (readTemplate leafHead t) → (s : Template Leaf) × Unmatched t xs s × Explained s xs
+    read (isRefused q e p) = absurd (some (subst (λ o. GroupRead o xs r g) e (h .group)))
+    read (isRead s e) = asked s e (askedOf s xs) refl
+
+pub givenWhere : GivenWhere
+unfolding GroupOf
+givenWhere t xs r g h = (
+  behind t xs r g h,
+  λ s u e z.
+      let a = explained-asked e in
+      let one = sym (h .number (ownRoom xs) (own-enough xs)) ∙ one-where u (ownRoom xs) (own-enough xs) in
+      empty-not-short z (asked-group h (u .reading) (a .3) .0 one .1),
+)
+
+pub givenShort : GivenShort
+givenShort t xs r g h some s q ok k n e = given-one h some q e .2
+
+pub noneShorter : NoneShorter
+noneShorter t xs r g h some s q ok k n e = given-one h some q e .1 .most .most
+
+pub insideOthers : InsideOthers
+insideOthers t xs r g h some s q ok k n e = given-one h some q e .1 .least
+
+pub numberAgrees : NumberAgrees
+numberAgrees t xs r g h room after q l a = sym (h .number room l) ∙ sym (ap numberOf a)
+
+pub shortExactly : ShortExactly
+shortExactly t xs s taken q ok k n e =
+    let c = asked-question (few-members t s q) (taken .1) e in (
+      c .unmet,
+      λ never. ⊎-elim
+          (λ (f : (f : ℕ → ℕ) × Chosen ok k n f). let w = c .met (f .0) (f .1) in absurd (never (w .0) (w .1)))
+          (λ (f : (G : ℕ → Bool) × ShortGroup ok k n G). f)
+          (hall-theorem.hall ok k n (c .few)),
+    )

@@ -1,0 +1,2 @@
+-- Claims == the claims of specs/Claims.antt, proved
+pub mod Claims

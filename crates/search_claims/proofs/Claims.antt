@@ -1,0 +1,85 @@
+-- The claims of specs/Claims.antt, proved: each cites laws of the crates below. Assumes nothing.
+use mathlib.Core.Path.{_≡_, refl, sym, ap, _∙_, subst, fun-ext}
+use mathlib.Core.Bool.{Bool}
+use mathlib.Core.List.{List}
+use Prim.Native.Nat.{ℕ, _≤_}
+use native.Mathlib.Omega.{arith}
+use lib.ListN.{length, take, length-take}
+use lib.Seq.{slice}
+use lib.IntN.{ℤ}
+use Rattle.facts.proofs.Cases.{not-so}
+use Rattle.rows.specs.Rows.{may, picks}
+use Rattle.blocks.specs.Pieces.{Cuts, Fills, Passing, Cutting, Filling}
+use Rattle.blocks.proofs.Assignments.{assigns-test, test-assigns, short-never}
+use Rattle.blocks.proofs.FirstLists.{best-found, best-unique, passing-holds, passing-unique}
+use Rattle.assign.proofs.Answers.{answer-complete, answer-unique}
+use Rattle.elements.specs.Element.{Elem}
+use Rattle.elements.specs.Leaf.{Leaf}
+use Rattle.member_rows.proofs.Agreeing.{Says, rows-say, says-same}
+use Rattle.search_claims.specs.Claims.{Sound, Complete, Least, Unique, Explained, Tested, UniqueCut, UniqueFilling, CutPasses, CutFound, FillingPasses, FillingFound, NothingChanges, ColumnsOf, SameOfEveryPair}
+
+-- ---- assignments
+pub sound : Sound
+sound may first k from to found w h f = h .best f .holds
+
+pub complete : Complete
+complete may first k from to found w h a g = answer-complete h a g
+
+pub least : Least
+least may first k from to found w h a g = h .best (answer-complete h a g) .least a g
+
+pub unique : Unique
+unique may first k from to found found' w w' piece end p q = answer-unique p q
+
+pub explained : Explained
+explained may first k from to found w block piece end h = (
+  h .short,
+  λ s. not-so found (λ f. short-never s block piece end (slice from to w) (h .best f .holds)),
+)
+
+pub tested : Tested
+tested may first k from to a n = (assigns-test, test-assigns n)
+
+-- ---- cuts and fillings
+-- the first n bytes of 32
+bytes : (n : ℕ) (w v : List ℕ) → n ≤ 32 → length w ≡ 32 → v ≡ take n w → length v ≡ n
+bytes n w v h l q = let x = length-take n w in ap (λ (y : List ℕ). length y) q ∙ omega arith
+
+pub uniqueCut : UniqueCut
+uniqueCut may bs n found found' w w' b c = best-unique b c
+
+pub uniqueFilling : UniqueFilling
+uniqueFilling may k n found found' w w' b c = best-unique b c
+
+pub cutPasses : CutPasses
+cutPasses may bs n found r w v h b f q p =
+    let c : Cuts may bs 0 n v = subst (λ (x : List ℕ). Cuts may bs 0 n x) (sym q) (b .best f .holds) in
+    passing-holds p (subst (λ (m : ℕ). Cuts may bs 0 m v) (sym (bytes n w v h (b .size) q)) c)
+
+pub cutFound : CutFound
+cutFound may bs n found w v b l p = best-found v b (subst (λ (m : ℕ). Cuts may bs 0 m v) l (p .passed refl))
+
+pub fillingPasses : FillingPasses
+fillingPasses may k n found r w v h b f q p =
+    let c : Fills may k n v = subst (λ (x : List ℕ). Fills may k n x) (sym q) (b .best f .holds) in
+    passing-holds p (subst (λ (m : ℕ). Fills may k m v) (sym (bytes n w v h (b .size) q)) c)
+
+pub fillingFound : FillingFound
+fillingFound may k n found w v b l p = best-found v b (subst (λ (m : ℕ). Fills may k m v) l (p .passed refl))
+
+-- two relations that say the same of every pair are one
+pub nothingChanges : NothingChanges
+nothingChanges rows cols same bs k n found found' passed passed' w w' =
+    let one : picks cols ≡ may rows = fun-ext (λ m. fun-ext (λ e. same m e)) in (
+      λ p q. uniqueCut (may rows) bs n found found' w w' (subst (λ (r : ℕ → ℕ → Bool). Cutting r bs n found w) one p) q,
+      λ p q. uniqueFilling (may rows) k n found found' w w' (subst (λ (r : ℕ → ℕ → Bool). Filling r k n found w) one p) q,
+      λ p q. passing-unique (subst (λ (r : ℕ → ℕ → Bool). Passing (Cuts r bs 0 n w) passed) one p) q,
+      λ p q. passing-unique (subst (λ (r : ℕ → ℕ → Bool). Passing (Fills r k n w) passed) one p) q,
+    )
+
+-- ---- rows
+columns-say : {es : List (Elem Leaf)} {xs : List ℤ} {cols : List ℕ} → ColumnsOf es xs cols → Says es xs (picks cols)
+columns-say p = record { right = p .right; noMember = p .noMember; noElement = p .noElement }
+
+pub sameOfEveryPair : SameOfEveryPair
+sameOfEveryPair es xs rows cols r c = says-same (columns-say c) (rows-say r)

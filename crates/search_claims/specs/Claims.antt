@@ -1,0 +1,104 @@
+-- What is claimed of the search and of the rows it stands on. `Answer`, `Cutting`, `Filling` and `Passing` are the contracts of the functions; proofs/Claims.antt
+-- proves each claim under its name with a small first letter.
+-- Sound     <-> what `first_assignment` finds is an assignment of the piece by the block
+-- Complete  <-> where there is an assignment, one is found
+-- Least     <-> no assignment comes before the one that is found
+-- Unique    <-> the promise allows one answer
+-- Explained <-> none is found exactly where a group of members may take too few elements
+-- Tested    <-> `Assigns` and the test `assigns` say the same
+-- UniqueCut     <-> the promise of `first_cut` allows one answer, every byte included
+-- UniqueFilling <-> the same of `first_filling`
+-- CutPasses     <-> the cut that `first_cut` finds passes `cut_passes`
+-- CutFound      <-> where some list passes `cut_passes`, `first_cut` finds a cut, and the list does not come before it
+-- FillingPasses <-> the filling that `first_filling` finds passes `filling_passes`
+-- FillingFound  <-> where some list passes `filling_passes`, `first_filling` finds a filling, and the list does not come before it
+-- NothingChanges <-> "no answer or witness changes" (document 02, Four): where rows by member and rows by element say the same of every pair, what they promise
+--   is the same, the cut and the filling that are found, byte for byte, and whether an offered list passes
+-- ColumnsOf es xs cols <-> bit e of the row of m says whether member m of es matches element e of xs; every other bit is clear: rows by member
+-- SameOfEveryPair <-> "both say the same of every pair" (document 02, Four): rows by element and rows by member, of the same members and list
+-- Assumes nothing: these are statements.
+use mathlib.Core.Path.{_≡_}
+use mathlib.Core.Bool.{Bool, true, false}
+use mathlib.Core.List.{List}
+use Prim.Native.Nat.{ℕ, _+_, _-_, _≤_, _<_}
+use lib.ListN.{length, getD, take}
+use lib.Seq.{slice}
+use lib.IntN.{ℤ, pos}
+use Rattle.byte_order.specs.ByteOrder.{earlier}
+use Rattle.rows.specs.Rows.{may, picks}
+use Rattle.blocks.specs.declared.Block.{Block}
+use Rattle.blocks.specs.Assignment.{Assigns, assigns, Short}
+use Rattle.blocks.specs.Pieces.{Cuts, Fills, Cutting, Filling, Passing}
+use Rattle.assign.specs.Answer.{Answer}
+use Rattle.elements.specs.Element.{Elem}
+use Rattle.elements.specs.Leaf.{Leaf}
+use Rattle.elements.specs.Matches.{matches}
+use Rattle.template.specs.Members.{memberHits}
+use Rattle.member_rows.specs.Contract.{RowsOf}
+
+-- ---- assignments
+abbrev pub Sound : Type 0
+Sound = (may : ℕ → ℕ → Bool) (first k from to : ℕ) (found : Bool) (w : List ℕ) → Answer may first k from to found w
+    → found ≡ true → Assigns may first k from to (slice from to w)
+
+abbrev pub Complete : Type 0
+Complete = (may : ℕ → ℕ → Bool) (first k from to : ℕ) (found : Bool) (w : List ℕ) → Answer may first k from to found w
+    → (a : List ℕ) → Assigns may first k from to a → found ≡ true
+
+abbrev pub Least : Type 0
+Least = (may : ℕ → ℕ → Bool) (first k from to : ℕ) (found : Bool) (w : List ℕ) → Answer may first k from to found w
+    → (a : List ℕ) → Assigns may first k from to a → earlier a (slice from to w) ≡ false
+
+abbrev pub Unique : Type 0
+Unique = (may : ℕ → ℕ → Bool) (first k from to : ℕ) (found found' : Bool) (w w' : List ℕ) → from ≤ to → to ≤ 32
+    → Answer may first k from to found w → Answer may first k from to found' w' → (found ≡ found') × (w ≡ w')
+
+abbrev pub Explained : Type 0
+Explained = (may : ℕ → ℕ → Bool) (first k from to : ℕ) (found : Bool) (w : List ℕ) → first + k ≤ 32 → from ≤ to → to ≤ 32
+    → Answer may first k from to found w → (found ≡ false → Short may first k from to) × (Short may first k from to → found ≡ false)
+
+abbrev pub Tested : Type 0
+Tested = (may : ℕ → ℕ → Bool) (first k from to : ℕ) (a : List ℕ) → length a ≡ to - from
+    → (Assigns may first k from to a → assigns may first k from a ≡ true) × (assigns may first k from a ≡ true → Assigns may first k from to a)
+
+-- ---- cuts and fillings
+abbrev pub UniqueCut : Type 0
+UniqueCut = (may : ℕ → ℕ → Bool) (bs : List Block) (n : ℕ) (found found' : Bool) (w w' : List ℕ)
+    → Cutting may bs n found w → Cutting may bs n found' w' → (found ≡ found') × (w ≡ w')
+
+abbrev pub UniqueFilling : Type 0
+UniqueFilling = (may : ℕ → ℕ → Bool) (k n : ℕ) (found found' : Bool) (w w' : List ℕ)
+    → Filling may k n found w → Filling may k n found' w' → (found ≡ found') × (w ≡ w')
+
+abbrev pub CutPasses : Type 0
+CutPasses = (may : ℕ → ℕ → Bool) (bs : List Block) (n : ℕ) (found r : Bool) (w v : List ℕ) → n ≤ 32
+    → Cutting may bs n found w → found ≡ true → v ≡ take n w → Passing (Cuts may bs 0 (length v) v) r → r ≡ true
+
+abbrev pub CutFound : Type 0
+CutFound = (may : ℕ → ℕ → Bool) (bs : List Block) (n : ℕ) (found : Bool) (w v : List ℕ)
+    → Cutting may bs n found w → length v ≡ n → Passing (Cuts may bs 0 (length v) v) true → (found ≡ true) × (earlier v (take n w) ≡ false)
+
+abbrev pub FillingPasses : Type 0
+FillingPasses = (may : ℕ → ℕ → Bool) (k n : ℕ) (found r : Bool) (w v : List ℕ) → n ≤ 32
+    → Filling may k n found w → found ≡ true → v ≡ take n w → Passing (Fills may k (length v) v) r → r ≡ true
+
+abbrev pub FillingFound : Type 0
+FillingFound = (may : ℕ → ℕ → Bool) (k n : ℕ) (found : Bool) (w v : List ℕ)
+    → Filling may k n found w → length v ≡ n → Passing (Fills may k (length v) v) true → (found ≡ true) × (earlier v (take n w) ≡ false)
+
+abbrev pub NothingChanges : Type 0
+NothingChanges = (rows cols : List ℕ) → ((m e : ℕ) → picks cols m e ≡ may rows m e) → (bs : List Block) (k n : ℕ) (found found' passed passed' : Bool) (w w' : List ℕ)
+    → (Cutting (picks cols) bs n found w → Cutting (may rows) bs n found' w' → (found ≡ found') × (w ≡ w'))
+    × (Filling (picks cols) k n found w → Filling (may rows) k n found' w' → (found ≡ found') × (w ≡ w'))
+    × (Passing (Cuts (picks cols) bs 0 n w) passed → Passing (Cuts (may rows) bs 0 n w) passed' → passed ≡ passed')
+    × (Passing (Fills (picks cols) k n w) passed → Passing (Fills (may rows) k n w) passed' → passed ≡ passed')
+
+-- ---- rows
+pub record ColumnsOf (es : List (Elem Leaf)) (xs : List ℤ) (cols : List ℕ) : Type 0 where
+  pub size : length cols ≡ 32
+  pub right : (m e : ℕ) → m < length es → e < length xs → picks cols m e ≡ memberHits matches es m (getD xs e (pos 0))
+  pub noMember : (m e : ℕ) → length es ≤ m → picks cols m e ≡ false
+  pub noElement : (m e : ℕ) → length xs ≤ e → picks cols m e ≡ false
+
+abbrev pub SameOfEveryPair : Type 0
+SameOfEveryPair = (es : List (Elem Leaf)) (xs : List ℤ) (rows cols : List ℕ) → RowsOf es xs rows → ColumnsOf es xs cols → (m e : ℕ) → picks cols m e ≡ may rows m e

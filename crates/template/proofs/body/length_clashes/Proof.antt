@@ -1,0 +1,14 @@
+-- `template::whole::length_clashes` meets its contract: it is the definition's own test, where an attribute is given. Assumes nothing.
+use Rattle.template.proofs.WholeTemplates.{clashes-is}
+use Rattle.template.proofs.body.length_clashes.Statement.{statement}
+use Rattle.template.proofs.body.length_clashes.Tie as tie
+use Rattle.template.proofs.body.length_clashes.Reads as reads
+use Rattle.template.proofs.body.length_clashes.Lts as lts
+
+returns : tie.Need-returns
+returns c =
+    let a = c .before .args in
+    clashes-is (a .attribute .given) (a .attribute .min) (a .attribute .max) (a .kind) (a .n)
+
+pub length-clashes-spec : {M : Type 1} → statement M
+length-clashes-spec = tie.close (tie.spec returns)
