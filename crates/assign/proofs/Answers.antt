@@ -12,7 +12,7 @@ use Rattle.blocks.specs.Assignment.{Assigns}
 use Rattle.assign.specs.Answer.{Answer}
 use Rattle.facts.proofs.Cases.{holds?, clash, not-so}
 use Rattle.facts.proofs.Spans.{between-from, between-to}
-use Rattle.facts.proofs.Slices.{slice-at}
+use Rattle.facts.proofs.Slices.{same-around}
 use Rattle.byte_order.proofs.ByteOrder.{first-unique}
 
 pub answer-complete : {may : ℕ → ℕ → Bool} {first k from to : ℕ} {found : Bool} {w : List ℕ} → Answer may first k from to found w → (a : List ℕ) → Assigns may first k from to a → found ≡ true
@@ -22,20 +22,6 @@ answer-complete {may} {first} {k} {from} {to} {found} {w} h a g = ⊎-elim (λ f
 both-found : {may : ℕ → ℕ → Bool} {first k from to : ℕ} {found found' : Bool} {w w' : List ℕ}
     → Answer may first k from to found w → Answer may first k from to found' w' → found ≡ true → found' ≡ true
 both-found {may} {first} {k} {from} {to} {found} {found'} {w} {w'} p q f = answer-complete q (slice from to w) (p .best f .holds)
-
--- two lists with the same piece, and the same around it
-same-around : (from to : ℕ) (w w' : List ℕ) → length w ≡ 32 → length w' ≡ 32 → slice from to w ≡ slice from to w'
-    → ((i : ℕ) → i < 32 → between from to i ≡ false → getD w i 0 ≡ getD w' i 0) → w ≡ w'
-same-around from to w w' n n' s out = ext-getD 0 w w' (n ∙ sym n') (λ i l. ⊎-elim
-    (λ (b : between from to i ≡ true).
-    let x = between-from from to i b in
-    let y = between-to from to i b in
-    let j = i - from in
-    let z : from + j ≡ i = omega arith in
-    ap (λ (d : ℕ). getD w d 0) (sym z) ∙ sym (slice-at from to w j (omega arith)) ∙ ap (λ (v : List ℕ). getD v j 0) s
-    ∙ slice-at from to w' j (omega arith) ∙ ap (λ (d : ℕ). getD w' d 0) z)
-    (λ (b : between from to i ≡ false). out i (omega arith) b)
-    (holds? (between from to i)))
 
 pub answer-unique : {may : ℕ → ℕ → Bool} {first k from to : ℕ} {found found' : Bool} {w w' : List ℕ}
     → Answer may first k from to found w → Answer may first k from to found' w' → (found ≡ found') × (w ≡ w')

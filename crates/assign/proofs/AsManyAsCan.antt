@@ -11,12 +11,12 @@ use native.Mathlib.Omega.{arith}
 use Rattle.facts.specs.Counting.{between, cnt}
 use Rattle.masks.specs.Masks.{Plus, Flipped}
 use Rattle.chains.specs.Chain.{Opened, Owned, reach, Gave, Stuck}
-use Rattle.assign.specs.Saturate.{Partly}
+use Rattle.refining.specs.AsBytes.{Partly}
 use Rattle.assign.specs.Widest.{Nowhere, Closed, Widest}
 use Rattle.facts.proofs.Cases.{same?, holds?, clash, not-so, or-left, or-right}
 use Rattle.facts.proofs.Spans.{between-from, between-to}
 use Rattle.chains.proofs.Chains.{flipped-down, flipped-out, owned-wider, within-reach, served-within}
-use Rattle.assign.proofs.AsThirtyTwoBytes.{within-in, partly-same, partly-block, partly-waits, partly-served}
+use Rattle.refining.proofs.AsThirtyTwoBytes.{within-in, partly-same, partly-block, partly-waits, partly-served}
 
 -- ---- the members of one set or of another
 abbrev pub either : (ℕ → Bool) → (ℕ → Bool) → ℕ → Bool

@@ -13,13 +13,13 @@ use Rattle.facts.specs.Counting.{between}
 use Rattle.facts.proofs.Cases.{same?, below, holds?, not-so}
 use Rattle.facts.proofs.Spans.{between-from, between-to}
 use Rattle.masks.proofs.Masks.{bit-none}
-use Rattle.assign.specs.Saturate.{fits, Dealt}
-use Rattle.assign.specs.Refine.{Agrees, Sooner, Leads}
+use Rattle.refining.specs.AsBytes.{fits, Dealt}
+use Rattle.refining.specs.Refine.{Agrees, Sooner, Leads}
 use Rattle.assign.specs.Quick.{Greedy}
 use Rattle.facts.proofs.Counting.{cnt-place, cnt-two}
 use Rattle.chains.proofs.Chains.{give-spare}
-use Rattle.assign.proofs.AsThirtyTwoBytes.{within-may, within-in, fits-block, fits-within, partly-start, partly-done, partly-low, partly-served}
-use Rattle.assign.proofs.Refinement.{dealt-outside}
+use Rattle.refining.proofs.AsThirtyTwoBytes.{within-may, within-in, fits-block, fits-within, partly-start, partly-done, partly-low, partly-served}
+use Rattle.refining.proofs.Refinement.{dealt-outside}
 
 -- on the way: besides, no element from e on has a member yet
 pub record GreedyTo (may : ℕ → ℕ → Bool) (first k from to : ℕ) (w : List ℕ) (left : ℕ → Bool) (e : ℕ) : Type 0 where

@@ -1,7 +1,5 @@
 -- What the proofs of several functions use, and what other crates cite.
 -- SameRelation == relations that agree on a block and a piece have one answer
--- AsThirtyTwoBytes == assignments as 32 bytes: the members served one by one, and one exchange
--- Refinement == from an assignment to the first
 -- PieceOfBytes == assignments of a piece, and the same as 32 bytes
 -- LeastFree == the least free member for each element in turn
 -- AsManyAsCan == as many members as can be
@@ -9,8 +7,6 @@
 -- Splices  == a piece of one list within another
 -- Unique   == the promises of the public functions allow one result only
 mod SameRelation
-pub mod AsThirtyTwoBytes
-mod Refinement
 mod PieceOfBytes
 mod LeastFree
 mod AsManyAsCan

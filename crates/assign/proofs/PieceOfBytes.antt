@@ -11,15 +11,15 @@ use Rattle.facts.specs.Counting.{between, cnt}
 use Rattle.byte_order.specs.ByteOrder.{earlier, First}
 use Rattle.blocks.specs.Assignment.{takes, Assigns, Short}
 use Rattle.assign.specs.Answer.{Answer}
-use Rattle.assign.specs.Saturate.{fits, Dealt}
-use Rattle.assign.specs.Refine.{Agrees, Sooner, Leads}
+use Rattle.refining.specs.AsBytes.{fits, Dealt}
+use Rattle.refining.specs.Refine.{Agrees, Sooner, Leads}
 use Rattle.facts.proofs.Cases.{below, clash, not-so}
 use Rattle.facts.proofs.Spans.{between-from}
 use Rattle.byte_order.proofs.ByteOrder.{earlier-irreflexive, earlier-asymmetric, earlier-at}
 use Rattle.facts.proofs.Counting.{cnt-append, cnt-replicate}
 use Rattle.blocks.proofs.Assignments.{takes-inv, takes-spare, takes-member, short-never}
-use Rattle.assign.proofs.AsThirtyTwoBytes.{within-may, within-in, fits-block, fits-within, fits-in}
-use Rattle.assign.proofs.Refinement.{dealt-outside}
+use Rattle.refining.proofs.AsThirtyTwoBytes.{within-may, within-in, fits-block, fits-within, fits-in}
+use Rattle.refining.proofs.Refinement.{dealt-outside}
 use Rattle.facts.proofs.Slices.{slice-at, cnt-slice}
 
 -- the piece of an assignment of 32 bytes

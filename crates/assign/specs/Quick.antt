@@ -6,8 +6,8 @@ use mathlib.Core.Logic.{_⊎_}
 use mathlib.Core.Bool.{Bool}
 use mathlib.Core.List.{List}
 use Prim.Native.Nat.{ℕ}
-use Rattle.assign.specs.Saturate.{Partly, Dealt}
-use Rattle.assign.specs.Refine.{Agrees, Sooner}
+use Rattle.refining.specs.AsBytes.{Partly, Dealt}
+use Rattle.refining.specs.Refine.{Agrees, Sooner}
 
 pub record Greedy (may : ℕ → ℕ → Bool) (first k from to : ℕ) (w : List ℕ) (U : ℕ → Bool) (e : ℕ) : Type 0 where
   pub partly : Partly may first k from to w U

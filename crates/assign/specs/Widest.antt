@@ -10,7 +10,7 @@ use mathlib.Core.List.{List}
 use Prim.Native.Nat.{ℕ, _+_, _<_}
 use Rattle.facts.specs.Counting.{between, cnt}
 use Rattle.chains.specs.Chain.{Owned}
-use Rattle.assign.specs.Saturate.{Partly}
+use Rattle.refining.specs.AsBytes.{Partly}
 
 abbrev pub Nowhere : (ℕ → Bool) → List ℕ → Type 0
 Nowhere R w = (v : ℕ) → R v ≡ true → (v < 32) × (cnt v w ≡ 0)

@@ -7,11 +7,11 @@ ghost use Rattle.rows.specs.Rows.{may};
 ghost use Rattle.assign.specs.Answer.{Answer};
 ghost use Rattle.assign.specs.Widest.{Widest};
 use blocks::Found;
+use refining::refine;
 use rows::turned;
 
 mod quick; // the least free member for each element
 mod saturate; // an assignment, if there is one
-mod refine; // from an assignment to the first one
 mod widest; // as many members as can be
 
 // The byte of each element, and the members that have none.
@@ -39,7 +39,7 @@ pub fn first_assignment(rows: &[u32; 32], first: u8, k: u8, from: u8, to: u8) ->
         return s;
     }
     let w = s.w;
-    let x = refine::refine(&columns, from, to, w);
+    let x = refine(&columns, from, to, w);
     Found { found: true, w: x }
 }
 

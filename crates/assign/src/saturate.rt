@@ -2,7 +2,8 @@
 ghost use Prim.Native.Nat.{ℕ, _+_, _≤_};
 ghost use Rattle.masks.specs.Masks.{bit};
 ghost use Rattle.rows.specs.Rows.{picks};
-ghost use Rattle.assign.specs.Saturate.{Partly, Saturated};
+ghost use Rattle.refining.specs.AsBytes.{Partly};
+ghost use Rattle.assign.specs.Saturate.{Saturated};
 use blocks::Found;
 use chains::open_places;
 use chains::settle;

@@ -2,7 +2,7 @@
 ghost use Prim.Native.Nat.{ℕ, _+_, _≤_};
 ghost use Rattle.masks.specs.Masks.{bit};
 ghost use Rattle.rows.specs.Rows.{picks};
-ghost use Rattle.assign.specs.Saturate.{Partly};
+ghost use Rattle.refining.specs.AsBytes.{Partly};
 ghost use Rattle.assign.specs.Widest.{Nowhere, Widest};
 use crate::Served;
 use chains::open_places;

@@ -16,11 +16,12 @@ use Rattle.blocks.proofs.Assignments.{takes-spare}
 use Rattle.facts.proofs.Cases.{same?, holds?, clash, not-so}
 use Rattle.facts.proofs.Spans.{between-to}
 use Rattle.blocks.specs.declared.Block.{Block}
-use Rattle.cuts.specs.declared.Suffix.{Suffix}
+use Rattle.suffixes.specs.declared.Suffix.{Suffix}
 use Rattle.blocks.specs.Pieces.{Takes, Cuts, Cutting}
-use Rattle.cuts.specs.Table.{Given, nothing, entry, Written, shortest, longest, together, Tabled, Prepended, Kept, alone, CutBefore}
-use Rattle.cuts.proofs.TableEntries.{blank-entry}
-use Rattle.cuts.proofs.Suffixes.{given-none, given-same, kept-union, joined-spare, spare-bytes}
+use Rattle.suffixes.specs.Suffixes.{Given, nothing, entry, Written, Kept, alone}
+use Rattle.cuts.specs.Table.{shortest, longest, together, Tabled, Prepended, CutBefore}
+use Rattle.suffixes.proofs.TableEntries.{blank-entry}
+use Rattle.suffixes.proofs.Joined.{given-none, given-same, kept-union, joined-spare, spare-bytes}
 use Rattle.blocks.proofs.Cutting.{cuts-order}
 
 -- ---- no blocks

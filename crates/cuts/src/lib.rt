@@ -5,18 +5,10 @@ ghost use Rattle.rows.specs.Rows.{may};
 ghost use Rattle.blocks.specs.Pieces.{Inside, Cutting};
 use blocks::Block;
 use blocks::Found;
-use cells::read;
+use suffixes::cells::read;
 use table::extent_of;
 
-mod cells; // the bytes of the table
-mod joins; // lists at their places in 32 bytes: joined, and the lesser of two
 mod table; // for each place what the blocks so far take from there on
-
-// Whether there is a list, and the byte of each element; all else is spare.
-pub struct Suffix {
-    pub there: bool,
-    pub w: [u8; 32],
-}
 
 // The first cut of the elements 0 .. n - 1 by the first `count` blocks: the table is made from the last block to the first.
 pub fn first_cut(rows: &[u32; 32], blocks: [Block; 32], count: usize, n: u8) -> Found

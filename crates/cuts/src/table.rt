@@ -8,15 +8,16 @@ ghost use lib.ListN.{length, take};
 ghost use Rattle.rows.specs.Rows.{may};
 ghost use Rattle.blocks.specs.declared.Block.{Block as BlockOf};
 ghost use Rattle.blocks.specs.Pieces.{Cuts};
-ghost use Rattle.cuts.specs.Table.{Given, Tabled, Prepended, shortest, longest, together};
-use crate::Suffix;
-use crate::cells::read;
-use crate::cells::write;
-use crate::joins::joined;
-use crate::joins::keep;
+ghost use Rattle.suffixes.specs.Suffixes.{Given};
+ghost use Rattle.cuts.specs.Table.{Tabled, Prepended, shortest, longest, together};
 use blocks::Block;
 use format::SPARE;
 use masks::lesser;
+use suffixes::Suffix;
+use suffixes::cells::read;
+use suffixes::cells::write;
+use suffixes::joins::joined;
+use suffixes::joins::keep;
 
 // How many elements blocks take together: at least `low`, at most `high`.
 pub struct Extent {

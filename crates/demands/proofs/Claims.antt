@@ -13,16 +13,16 @@ use Rattle.integers.specs.Integer.{signed, intAt, intBytes}
 use Rattle.facts.proofs.Cases.{by-test}
 use Rattle.facts.specs.Counting.{between, cnt}
 use Rattle.blocks.specs.Assignment.{allOnce}
-use Rattle.elements.specs.Element.{Elem}
-use Rattle.elements.specs.Leaf.{Leaf, singleHead, rangeHead, leafHead}
-use Rattle.template.specs.Template.{Template, membersOfGroup, membersOfItem, membersOfItems, membersOf}
-use Rattle.elements.specs.Record.{countFault, boundsFault, groupHead, head}
-use Rattle.elements.specs.Read.{Read, refuse, got, ended, mapRead}
-use Rattle.elements.specs.Reading.{uncounted, putFirst, thenMore, many, closed, tooDeep, opened, elem, readElement}
-use Rattle.template.specs.Whole.{starHere, numbered, putMember, thenMembers, thenStar, putItem, thenItems, clashes, member, members, permutationHere, item, items, contents, bodyHere, templateHere, readTemplate}
-use Rattle.template.proofs.RefusalNumbers.{Cases, isRefused, isRead, read-cases}
-use Rattle.elements.specs.Matches.{matchesBy, leafMatches}
-use Rattle.template.specs.Members.{memberHits}
+use Rattle.grammar.specs.Element.{Elem}
+use Rattle.grammar.specs.Leaf.{Leaf, singleHead, rangeHead, leafHead}
+use Rattle.grammar.specs.Template.{Template, membersOfGroup, membersOfItem, membersOfItems, membersOf}
+use Rattle.grammar.specs.Record.{countFault, boundsFault, groupHead, head}
+use Rattle.grammar.specs.Read.{Read, refuse, got, ended, mapRead}
+use Rattle.grammar.specs.Reading.{uncounted, putFirst, thenMore, many, closed, tooDeep, opened, elem, readElement}
+use Rattle.grammar.specs.Whole.{starHere, numbered, putMember, thenMembers, thenStar, putItem, thenItems, clashes, member, members, permutationHere, item, items, contents, bodyHere, templateHere, readTemplate}
+use Rattle.grammar.proofs.RefusalNumbers.{Cases, isRefused, isRead, read-cases}
+use Rattle.grammar.specs.Matches.{matchesBy, leafMatches}
+use Rattle.grammar.specs.Members.{memberHits}
 use Rattle.matching.specs.Obeys.{rightBytes, noneTwice, allSpare, withinBlock, starMet, groupTakes, itemTakes, someCut, cuts, bodyMet, lengthMet, obeysBy, obeys}
 use Rattle.matching.specs.Search.{Maybe, nothing, just, put, orElse, tryEach, firstOf, from, membersCount, firstWitness}
 use Rattle.matching.specs.Answer.{Given, given, written, matchRead, matchAnswer, judgeRead, judgeAnswer}

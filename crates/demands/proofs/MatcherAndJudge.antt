@@ -9,11 +9,11 @@ use lib.Dec.{ltb, eqb}
 use lib.ListN.{length, drop}
 use lib.IntN.{ℤ}
 use Rattle.facts.proofs.Cases.{by-test}
-use Rattle.elements.specs.Leaf.{Leaf, leafHead}
-use Rattle.elements.specs.Read.{got}
-use Rattle.template.specs.Template.{Template}
-use Rattle.template.specs.Whole.{readTemplate}
-use Rattle.template.proofs.RefusalNumbers.{Cases, isRefused, isRead, read-cases}
+use Rattle.grammar.specs.Leaf.{Leaf, leafHead}
+use Rattle.grammar.specs.Read.{got}
+use Rattle.grammar.specs.Template.{Template}
+use Rattle.grammar.specs.Whole.{readTemplate}
+use Rattle.grammar.proofs.RefusalNumbers.{Cases, isRefused, isRead, read-cases}
 use Rattle.matching.specs.Obeys.{obeys}
 use Rattle.matching.specs.Search.{Maybe, nothing, just, firstWitness}
 use Rattle.matching.specs.Answer.{given, written, matchRead, matchAnswer, judgeRead, judgeAnswer, Taken}

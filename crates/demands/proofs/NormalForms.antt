@@ -12,9 +12,9 @@ use borrow.Author.Tests.{le-ltb}
 use Rattle.ranges.specs.Spans.{Span, span, least, greatest, holds, gaps}
 use Rattle.ranges.proofs.JoinsAndGaps.{Words, words-of, proper-of, holds-gaps, words-drop, none-before, none-after}
 use Rattle.integers.proofs.SignedLocals.{lt-rank}
-use Rattle.elements.specs.Element.{Elem, leaves}
-use Rattle.elements.specs.Leaf.{Leaf}
-use Rattle.elements.specs.Matches.{matches}
+use Rattle.grammar.specs.Element.{Elem, leaves}
+use Rattle.grammar.specs.Leaf.{Leaf}
+use Rattle.grammar.specs.Matches.{matches}
 use Rattle.integers.specs.Integer.{Word}
 use Rattle.facts.proofs.Cases.{by-test}
 use Rattle.integers.proofs.Ranks.{word-next, word-prev}

@@ -31,15 +31,15 @@ use lib.IntN.{ℤ, pos, _+ℤ_, _-ℤ_}
 use lib.Signed.{ltZ}
 use Rattle.byte_order.specs.ByteOrder.{First as FirstOf}
 use Rattle.integers.specs.Integer.{Word}
-use Rattle.elements.specs.Element.{Elem, leaves}
-use Rattle.elements.specs.Leaf.{Leaf, leafHead}
-use Rattle.template.specs.Template.{Template}
-use Rattle.elements.specs.Read.{refuse, got}
-use Rattle.elements.specs.Reading.{readElement}
-use Rattle.template.specs.Whole.{readTemplate}
+use Rattle.grammar.specs.Element.{Elem, leaves}
+use Rattle.grammar.specs.Leaf.{Leaf, leafHead}
+use Rattle.grammar.specs.Template.{Template}
+use Rattle.grammar.specs.Read.{refuse, got}
+use Rattle.grammar.specs.Reading.{readElement}
+use Rattle.grammar.specs.Whole.{readTemplate}
 use Rattle.matching.specs.Obeys.{obeys}
 use Rattle.matching.specs.Answer.{given, matchAnswer, judgeAnswer}
-use Rattle.elements.specs.Matches.{matches}
+use Rattle.grammar.specs.Matches.{matches}
 use Rattle.ranges.specs.Spans.{Span, span, least, greatest, holds, Ascending}
 use Rattle.forms.specs.Matched.{rangesOf}
 use Rattle.forms.specs.Form.{normalForm, formLength}

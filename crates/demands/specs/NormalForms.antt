@@ -8,11 +8,11 @@ use mathlib.Core.Path.{_≡_}
 use mathlib.Core.List.{List, []}
 use lib.IntN.{ℤ}
 use Rattle.integers.specs.Integer.{Word}
-use Rattle.elements.specs.Element.{Elem}
-use Rattle.elements.specs.Leaf.{Leaf, leafHead}
-use Rattle.elements.specs.Read.{got}
-use Rattle.elements.specs.Reading.{readElement}
-use Rattle.elements.specs.Matches.{matches}
+use Rattle.grammar.specs.Element.{Elem}
+use Rattle.grammar.specs.Leaf.{Leaf, leafHead}
+use Rattle.grammar.specs.Read.{got}
+use Rattle.grammar.specs.Reading.{readElement}
+use Rattle.grammar.specs.Matches.{matches}
 use Rattle.forms.specs.Form.{normalForm}
 
 abbrev pub Accepted : List ℕ → Elem Leaf → Type 0

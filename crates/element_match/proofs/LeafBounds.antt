@@ -13,11 +13,11 @@ use lib.Signed.{leZ}
 use lib.ListN.{length, getD, drop}
 use Rattle.integers.specs.Integer.{Word, intAt, eqZ}
 use Rattle.facts.proofs.Cases.{below}
-use Rattle.elements.specs.Element.{Elem}
-use Rattle.elements.specs.Leaf.{Leaf, leafHead}
-use Rattle.elements.specs.Read.{got}
-use Rattle.elements.specs.Reading.{counted, outermost}
-use Rattle.elements.specs.Matches.{matches}
+use Rattle.grammar.specs.Element.{Elem}
+use Rattle.grammar.specs.Leaf.{Leaf, leafHead}
+use Rattle.grammar.specs.Read.{got}
+use Rattle.grammar.specs.Reading.{counted, outermost}
+use Rattle.grammar.specs.Matches.{matches}
 use Rattle.element_match.specs.Contract.{ElementAt, LeafHere, LeafHit}
 use Rattle.element_match.proofs.LeafTest as leaves
 use Rattle.element_match.proofs.Walks.{whole-here, here-fits, leaf-there, leaf-member}

@@ -8,9 +8,9 @@ use lib.IntN.{ℤ}
 use lib.Signed.{leZ}
 use lib.ListN.{length, getD, drop}
 use Rattle.integers.specs.Integer.{intAt, eqZ}
-use Rattle.elements.specs.Leaf.{Leaf}
-use Rattle.elements.proofs.ReadApart.{LeafAt, singleAt, rangeAt, anyAt, leaf-at}
-use Rattle.elements.specs.Matches.{leafMatches}
+use Rattle.grammar.specs.Leaf.{Leaf}
+use Rattle.grammar.proofs.ReadApart.{LeafAt, singleAt, rangeAt, anyAt, leaf-at}
+use Rattle.grammar.specs.Matches.{leafMatches}
 use Rattle.element_match.specs.Contract.{LeafHere, LeafHit}
 
 module _ (t : List ℕ) (at : ℕ) (p : LeafHere t at) where

@@ -10,13 +10,13 @@ use lib.ListN.{length, getD, drop}
 use mir.Syntax.{w32}
 use mir.Val.{toZ, ofZ, SFits}
 use mir.Facts.{toZ-ofZ}
-use Rattle.elements.specs.Element.{Elem, Elems}
-use Rattle.elements.specs.Record.{leafHere, head}
-use Rattle.elements.specs.Leaf.{Leaf, leafHead}
-use Rattle.elements.specs.Read.{got}
-use Rattle.elements.specs.Reading.{counted, many, elem}
-use Rattle.elements.proofs.ReadApart.{grouped, Got, gotLeaf, gotGroup, elem-inv, many-inv, many-none, group-at, LeafAt, singleAt, rangeAt, anyAt, leaf-at}
-use Rattle.elements.specs.Matches.{matches, anyMatches, matchesBy}
+use Rattle.grammar.specs.Element.{Elem, Elems}
+use Rattle.grammar.specs.Record.{leafHere, head}
+use Rattle.grammar.specs.Leaf.{Leaf, leafHead}
+use Rattle.grammar.specs.Read.{got}
+use Rattle.grammar.specs.Reading.{counted, many, elem}
+use Rattle.grammar.proofs.ReadApart.{grouped, Got, gotLeaf, gotGroup, elem-inv, many-inv, many-none, group-at, LeafAt, singleAt, rangeAt, anyAt, leaf-at}
+use Rattle.grammar.specs.Matches.{matches, anyMatches, matchesBy}
 use Rattle.element_match.specs.Contract.{ElementAt, HitAt, LeafHere, LeafHit, Members, AnyHit, NoneHit}
 use Rattle.element_match.specs.declared.Walk.{Walk}
 

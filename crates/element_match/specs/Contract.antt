@@ -13,13 +13,13 @@ use mathlib.Core.List.{List}
 use Prim.Native.Nat.{ℕ, _≤_}
 use lib.ListN.{length, drop}
 use lib.IntN.{ℤ}
-use Rattle.elements.specs.Element.{Elem, Elems}
-use Rattle.elements.specs.Record.{leafHere, head}
-use Rattle.elements.specs.Leaf.{Leaf, leafHead}
+use Rattle.grammar.specs.Element.{Elem, Elems}
+use Rattle.grammar.specs.Record.{leafHere, head}
+use Rattle.grammar.specs.Leaf.{Leaf, leafHead}
 use Rattle.elements.specs.Contract.{ElementHere}
-use Rattle.elements.specs.Read.{got}
-use Rattle.elements.specs.Reading.{counted, many, elem, outermost}
-use Rattle.elements.specs.Matches.{leafMatches, matches, anyMatches}
+use Rattle.grammar.specs.Read.{got}
+use Rattle.grammar.specs.Reading.{counted, many, elem, outermost}
+use Rattle.grammar.specs.Matches.{leafMatches, matches, anyMatches}
 
 abbrev pub ElementAt : List ℕ → ℕ → Type 0
 ElementAt t at = ElementHere t at

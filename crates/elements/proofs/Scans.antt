@@ -6,10 +6,10 @@ use Prim.Native.Nat.{ℕ, zero, suc, _+_, _-_, _≤_, _<_}
 use native.Mathlib.Omega.{arith}
 use borrow.Author.Tests.{lt-ltb, le-ltb}
 use lib.ListN.{length, drop}
-use Rattle.elements.specs.Element.{Elem, leaf, oneOf, noneOf, Elems, none, more}
-use Rattle.elements.specs.Record.{Head, fault, leafHere, group, head}
-use Rattle.elements.specs.Read.{Read, refuse, got}
-use Rattle.elements.specs.Reading.{Counted, counted, putFirst, thenMore, many, closed, tooDeep, opened, elem}
+use Rattle.grammar.specs.Element.{Elem, leaf, oneOf, noneOf, Elems, none, more}
+use Rattle.grammar.specs.Record.{Head, fault, leafHere, group, head}
+use Rattle.grammar.specs.Read.{Read, refuse, got}
+use Rattle.grammar.specs.Reading.{Counted, counted, putFirst, thenMore, many, closed, tooDeep, opened, elem}
 use Rattle.elements.specs.Contract.{HeadAt, faulty, aLeaf, aGroup, Scanned, refused, read, leavesTo}
 
 -- ---- what any scan says

@@ -2,14 +2,14 @@
 -- number is promised. Assumes nothing.
 use mathlib.Core.Path.{_≡_, sym, ap, _∙_}
 use mathlib.Core.List.{List}
-use Prim.Native.Nat.{ℕ, _≤_}
+use Prim.Native.Nat.{ℕ}
 use native.Mathlib.Omega.{arith}
-use lib.ListN.{length, drop, length-drop}
+use lib.ListN.{drop}
 use borrow.Fn.Kinds.{Dens, resT, endedOf}
 use contract.Lifetimes.{Lfts}
 use denote.Triple.Clauses.{AtExit}
-use Rattle.elements.specs.Record.{Head}
-use Rattle.elements.specs.Read.{Read}
+use Rattle.grammar.specs.Record.{Head}
+use Rattle.grammar.specs.Read.{Read}
 use Rattle.elements.specs.Contract.{HeadAt, faulty, aLeaf, aGroup, Scanned, refused, read, Answered, rejected, accepted}
 use Rattle.elements.specs.declared.Head.{Head as HeadOf}
 use Rattle.elements.specs.declared.Scan.{Scan}
@@ -21,10 +21,7 @@ use Rattle.elements.proofs.scan_one.Reads as scan-one
 use Rattle.elements.proofs.scan_one.Kinds as scan-one-kinds
 use Rattle.elements.proofs.scan_element.Reads as scan-element
 use Rattle.elements.proofs.scan_element.Kinds as scan-element-kinds
-
--- one place of the bytes has one rest
-pub same-place : (t : List ℕ) (p q : ℕ) → p ≤ length t → q ≤ length t → drop p t ≡ drop q t → p ≡ q
-same-place t p q h k e = omega (arith, length-drop p t, length-drop q t, ap length e)
+use Rattle.facts.proofs.Slices.{same-place}
 
 -- one reading has one number
 pub answered-unique : {A : Type 0} (o : Read A) (r r′ : ℕ) → Answered o r → Answered o r′ → r ≡ r′

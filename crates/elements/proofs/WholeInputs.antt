@@ -6,8 +6,8 @@ use native.Mathlib.Omega.{arith}
 use borrow.Author.Tests.{lt-ltb, le-ltb}
 use lib.ListN.{length, drop, drop-of-length-le}
 use lib.Seq.{drop-cons}
-use Rattle.elements.specs.Read.{Read, got, ended, limited}
-use Rattle.elements.specs.Reading.{Counted, counted, uncounted}
+use Rattle.grammar.specs.Read.{Read, got, ended, limited}
+use Rattle.grammar.specs.Reading.{Counted, counted, uncounted}
 use Rattle.elements.specs.Contract.{Scanned, refused, read, leavesTo, Answered, rejected, accepted}
 use Rattle.elements.proofs.Scans.{scanned-refused, scanned-read}
 

@@ -12,11 +12,11 @@ use mathlib.Core.Bool.{Bool}
 use mathlib.Core.List.{List, []}
 use Prim.Native.Nat.{ℕ, _≤_, _<_}
 use lib.ListN.{length, drop}
-use Rattle.elements.specs.Element.{Elem}
-use Rattle.elements.specs.Record.{Head, fault, leafHere, group}
-use Rattle.elements.specs.Leaf.{Leaf, leafHead}
-use Rattle.elements.specs.Read.{Read, refuse, got}
-use Rattle.elements.specs.Reading.{Counted, counted, outermost}
+use Rattle.grammar.specs.Element.{Elem}
+use Rattle.grammar.specs.Record.{Head, fault, leafHere, group}
+use Rattle.grammar.specs.Leaf.{Leaf, leafHead}
+use Rattle.grammar.specs.Read.{Read, refuse, got}
+use Rattle.grammar.specs.Reading.{Counted, counted, outermost}
 
 pub data HeadAt {L : Type 0} (t : List ℕ) (h : Head L) (code n next : ℕ) : Type 0 where
   faulty : h ≡ fault code → 0 < code → HeadAt t h code n next

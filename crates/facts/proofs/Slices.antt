@@ -1,13 +1,14 @@
--- A piece of a list: its places, what it counts where nothing is counted outside it, and a piece cut at a middle place. Assumes nothing.
+-- A piece of a list: its places, what it counts where nothing is counted outside it, a piece cut at a middle place; and the rest from a place on. Assumes nothing.
 use mathlib.Core.Path.{_≡_, sym, ap, _∙_}
-use mathlib.Core.Bool.{false}
+use mathlib.Core.Bool.{true, false}
 use mathlib.Core.List.{List, _++_}
+use mathlib.Core.Logic.{⊎-elim}
 use Prim.Native.Nat.{ℕ, _+_, _-_, _≤_, _<_}
 use native.Mathlib.Omega.{arith}
 use lib.ListN.{length, getD, take, drop, length-take, length-drop, take-append-drop}
-use lib.Seq.{slice, getD-take, getD-drop, take-take, drop-append-le}
+use lib.Seq.{slice, getD-take, getD-drop, take-take, drop-append-le, ext-getD}
 use Rattle.facts.specs.Counting.{between, cnt}
-use Rattle.facts.proofs.Cases.{not-so}
+use Rattle.facts.proofs.Cases.{not-so, holds?}
 use Rattle.facts.proofs.Spans.{between-from, between-to}
 use Rattle.facts.proofs.Counting.{cnt-append, cnt-none}
 
@@ -35,3 +36,21 @@ slice-split from e to w f l k =
     let whole : take to w ≡ take e w ++ slice e to w = sym (take-append-drop e (take to w)) ∙ ap (λ (x : List ℕ). x ++ slice e to w) (take-take e to w l) in
     let n = length-take e w in
     ap (λ (x : List ℕ). drop from x) whole ∙ drop-append-le from (take e w) (slice e to w) (omega arith)
+
+-- one place of a list has one rest
+pub same-place : (t : List ℕ) (p q : ℕ) → p ≤ length t → q ≤ length t → drop p t ≡ drop q t → p ≡ q
+same-place t p q h k e = omega (arith, length-drop p t, length-drop q t, ap length e)
+
+-- two lists with the same piece, and the same around it
+pub same-around : (from to : ℕ) (w w' : List ℕ) → length w ≡ 32 → length w' ≡ 32 → slice from to w ≡ slice from to w'
+    → ((i : ℕ) → i < 32 → between from to i ≡ false → getD w i 0 ≡ getD w' i 0) → w ≡ w'
+same-around from to w w' n n' s out = ext-getD 0 w w' (n ∙ sym n') (λ i l. ⊎-elim
+    (λ (b : between from to i ≡ true).
+    let x = between-from from to i b in
+    let y = between-to from to i b in
+    let j = i - from in
+    let z : from + j ≡ i = omega arith in
+    ap (λ (d : ℕ). getD w d 0) (sym z) ∙ sym (slice-at from to w j (omega arith)) ∙ ap (λ (v : List ℕ). getD v j 0) s
+    ∙ slice-at from to w' j (omega arith) ∙ ap (λ (d : ℕ). getD w' d 0) z)
+    (λ (b : between from to i ≡ false). out i (omega arith) b)
+    (holds? (between from to i)))

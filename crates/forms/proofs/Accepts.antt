@@ -11,12 +11,12 @@ use lib.Signed.{ltZ, _≤ℤ_}
 use lib.ListN.{length, getD, drop}
 use borrow.Author.Tests.{ltb-false, le-ltb}
 use Rattle.ranges.proofs.JoinsAndGaps.{of-rank}
-use Rattle.elements.specs.Element.{Elem, leaf, oneOf, noneOf, Elems, none, more, leaves, leavesAll}
-use Rattle.elements.specs.Leaf.{Leaf, single, range, any, leafHead}
-use Rattle.elements.specs.Read.{Read, refuse, got, ended}
-use Rattle.elements.specs.Reading.{Counted, counted, uncounted, many, elem, readElement}
-use Rattle.elements.specs.Record.{leafHere, head}
-use Rattle.elements.proofs.ReadApart.{Got, gotLeaf, gotGroup, elem-inv, many-inv, many-none, LeafAt, singleAt, rangeAt, anyAt, leaf-at, group-at}
+use Rattle.grammar.specs.Element.{Elem, leaf, oneOf, noneOf, Elems, none, more, leaves, leavesAll}
+use Rattle.grammar.specs.Leaf.{Leaf, single, range, any, leafHead}
+use Rattle.grammar.specs.Read.{Read, refuse, got, ended}
+use Rattle.grammar.specs.Reading.{Counted, counted, uncounted, many, elem, readElement}
+use Rattle.grammar.specs.Record.{leafHere, head}
+use Rattle.grammar.proofs.ReadApart.{Got, gotLeaf, gotGroup, elem-inv, many-inv, many-none, LeafAt, singleAt, rangeAt, anyAt, leaf-at, group-at}
 use Rattle.integers.specs.Integer.{Word, joined, signed, intAt}
 use Rattle.integers.specs.Rank.{rank}
 use Rattle.facts.proofs.Cases.{by-test, below}

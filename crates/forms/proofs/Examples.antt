@@ -4,11 +4,11 @@ use mathlib.Core.Path.{_≡_, refl}
 use mathlib.Core.List.{List, [], _∷_}
 use lib.IntN.{pos, negsuc}
 use Rattle.integers.specs.Integer.{intBytes}
-use Rattle.elements.specs.Element.{Elem, leaf, oneOf, noneOf, Elems, none, more}
-use Rattle.elements.specs.Leaf.{Leaf, single, range, any, leafHead}
-use Rattle.elements.specs.Record.{countFault, groupHead, head}
-use Rattle.elements.specs.Read.{ended}
-use Rattle.elements.specs.Reading.{uncounted, putFirst, thenMore, many, closed, opened, elem, readElement}
+use Rattle.grammar.specs.Element.{Elem, leaf, oneOf, noneOf, Elems, none, more}
+use Rattle.grammar.specs.Leaf.{Leaf, single, range, any, leafHead}
+use Rattle.grammar.specs.Record.{countFault, groupHead, head}
+use Rattle.grammar.specs.Read.{ended}
+use Rattle.grammar.specs.Reading.{uncounted, putFirst, thenMore, many, closed, opened, elem, readElement}
 use Rattle.ranges.specs.Spans.{join, joinAll, gapsFrom, gaps}
 use Rattle.forms.specs.Matched.{rangesOf}
 use Rattle.forms.specs.Form.{recordOf, records, matchedForm, unmatchedForm, form, normalForm}

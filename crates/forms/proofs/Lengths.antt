@@ -6,7 +6,7 @@ use Prim.Native.Nat.{ℕ, suc, _+_, _*_, _≤_}
 use native.Mathlib.Omega.{arith}
 use lib.ListN.{length, length-append}
 use Rattle.ranges.specs.Spans.{Span, span, least, holds, gaps}
-use Rattle.elements.specs.Record.{outside}
+use Rattle.grammar.specs.Record.{outside}
 use Rattle.integers.specs.Integer.{intBytes, eqZ}
 use Rattle.facts.proofs.Cases.{by-test}
 use Rattle.forms.specs.Form.{recordOf, records, matchedForm, unmatchedForm, sideForm, form, recordLength, recordsLength, matchedLength, unmatchedLength, sideLength, formLength}

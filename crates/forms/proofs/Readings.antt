@@ -12,13 +12,13 @@ use lib.Seq.{drop-drop, drop-at}
 use borrow.Author.Tests.{le-ltb, eqb-true, ne-eqb}
 use Rattle.ranges.specs.Spans.{Span, span, inSpan, holds, Proper}
 use Rattle.ranges.proofs.JoinsAndGaps.{to-rank}
-use Rattle.elements.specs.Element.{Elem, leaf, oneOf, noneOf, Elems, none, more, leaves, leavesAll}
-use Rattle.elements.specs.Leaf.{Leaf, single, range, any, singleHead, rangeHead, leafHead}
-use Rattle.elements.specs.Read.{got}
-use Rattle.elements.specs.Reading.{counted, putFirst, thenMore, many, closed, opened, elem}
-use Rattle.elements.specs.Record.{countFault, leafHere, group, groupHead, head}
-use Rattle.elements.proofs.ReadApart.{grouped}
-use Rattle.elements.specs.Matches.{matchesBy, leafMatches, matches, anyMatches}
+use Rattle.grammar.specs.Element.{Elem, leaf, oneOf, noneOf, Elems, none, more, leaves, leavesAll}
+use Rattle.grammar.specs.Leaf.{Leaf, single, range, any, singleHead, rangeHead, leafHead}
+use Rattle.grammar.specs.Read.{got}
+use Rattle.grammar.specs.Reading.{counted, putFirst, thenMore, many, closed, opened, elem}
+use Rattle.grammar.specs.Record.{countFault, leafHere, group, groupHead, head}
+use Rattle.grammar.proofs.ReadApart.{grouped}
+use Rattle.grammar.specs.Matches.{matchesBy, leafMatches, matches, anyMatches}
 use Rattle.integers.specs.Integer.{Word, signed, intAt, bits, intBytes, eqZ}
 use Rattle.integers.specs.Rank.{rank}
 use Rattle.facts.proofs.Cases.{by-test}

@@ -13,9 +13,9 @@ use lib.ListN.{length}
 use borrow.Author.Tests.{le-leb, lt-leb, eq-eqb, ne-eqb}
 use Rattle.ranges.specs.Spans.{Span, span, least, greatest, holds, Ascending, joinAll, gaps, edges}
 use Rattle.ranges.proofs.JoinsAndGaps.{of-rank, ascending-joined, holds-joined, edges-joined, proper-of, holds-gaps, ascending-gaps, edges-gaps, length-edges, length-edges-above, unique}
-use Rattle.elements.specs.Element.{Elem, leaf, oneOf, noneOf, Elems, none, more, leaves, leavesAll}
-use Rattle.elements.specs.Leaf.{Leaf, single, range, any}
-use Rattle.elements.specs.Matches.{matchesBy, leafMatches, matches, anyMatches}
+use Rattle.grammar.specs.Element.{Elem, leaf, oneOf, noneOf, Elems, none, more, leaves, leavesAll}
+use Rattle.grammar.specs.Leaf.{Leaf, single, range, any}
+use Rattle.grammar.specs.Matches.{matchesBy, leafMatches, matches, anyMatches}
 use Rattle.integers.specs.Integer.{Word}
 use Rattle.integers.specs.Rank.{rank}
 use Rattle.facts.proofs.Cases.{below}

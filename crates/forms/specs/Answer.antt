@@ -9,10 +9,10 @@ use mathlib.Core.List.{List, _++_}
 use mathlib.Core.Bool.{cond}
 use lib.Dec.{ltb}
 use lib.ListN.{length, drop}
-use Rattle.elements.specs.Element.{Elem}
-use Rattle.elements.specs.Leaf.{Leaf, leafHead}
-use Rattle.elements.specs.Read.{Read, refuse, got}
-use Rattle.elements.specs.Reading.{readElement}
+use Rattle.grammar.specs.Element.{Elem}
+use Rattle.grammar.specs.Leaf.{Leaf, leafHead}
+use Rattle.grammar.specs.Read.{Read, refuse, got}
+use Rattle.grammar.specs.Reading.{readElement}
 use Rattle.forms.specs.Form.{normalForm}
 
 pub data Answer : Type 0 where

@@ -14,8 +14,8 @@ use mathlib.Core.List.{List, [], _∷_, _++_}
 use mathlib.Core.Bool.{Bool, true, false, cond}
 use lib.ListN.{length}
 use Rattle.integers.specs.Integer.{intBytes, eqZ}
-use Rattle.elements.specs.Element.{Elem}
-use Rattle.elements.specs.Leaf.{Leaf}
+use Rattle.grammar.specs.Element.{Elem}
+use Rattle.grammar.specs.Leaf.{Leaf}
 use Rattle.ranges.specs.Spans.{Span, span, least, holds, gaps}
 use Rattle.forms.specs.Matched.{rangesOf}
 

@@ -6,8 +6,8 @@
 -- That they are the maximal ranges of what `matches` says is the claim `Maximal` of crate `promises`.
 -- Assumes nothing: these are definitions.
 use mathlib.Core.List.{List, [], _∷_}
-use Rattle.elements.specs.Element.{Elem, leaf, oneOf, noneOf, Elems, none, more}
-use Rattle.elements.specs.Leaf.{Leaf, single, range, any}
+use Rattle.grammar.specs.Element.{Elem, leaf, oneOf, noneOf, Elems, none, more}
+use Rattle.grammar.specs.Leaf.{Leaf, single, range, any}
 use Rattle.ranges.specs.Spans.{Span, span, least, greatest, joinAll, gaps}
 
 abbrev pub leafRanges : Leaf → List Span

@@ -7,14 +7,15 @@ use native.Mathlib.Omega.{arith}
 use native.Mathlib.Nat.{pos-of-ne-zero}
 use lib.ListN.{length, take, drop}
 use borrow.Author.Tests.{lt-ltb, le-ltb}
-use Rattle.elements.specs.Leaf.{leafHead}
-use Rattle.elements.specs.Read.{Read, got, refuseOr, verdict}
-use Rattle.template.specs.Whole.{readTemplate}
+use Rattle.grammar.specs.Leaf.{leafHead}
+use Rattle.grammar.specs.Read.{Read, got, refuseOr, verdict}
+use Rattle.grammar.specs.Whole.{readTemplate}
 use Rattle.elements.specs.Contract.{Answered, rejected as answer-rejected, accepted as answer-accepted}
 use Rattle.lines.specs.Line.{line}
 use Rattle.lines.specs.Contract.{Wrote}
 use Rattle.stream.specs.Input.{recordFault, templateSize, afterTemplate, templateIn, reached}
-use Rattle.stream.proofs.Lists.{refuse-is, record-long}
+use Rattle.grammar.proofs.ReadApart.{refuse-is}
+use Rattle.stream.proofs.Lists.{record-long}
 use Rattle.intake_lines.specs.Contract.{RefusedBy, rejected, accepted, Headed, refused, found}
 
 module _ (s : List ℕ) where

@@ -9,11 +9,11 @@ use lib.ListN.{drop}
 use borrow.Fn.Kinds.{Dens, resT, endedOf}
 use contract.Lifetimes.{Lfts}
 use denote.Triple.Clauses.{AtExit}
-use Rattle.elements.specs.Read.{Read, refuse, got}
+use Rattle.grammar.specs.Read.{Read, refuse, got}
 use Rattle.lines.specs.Line.{line}
 use Rattle.lines.proofs.Unique.{same-bytes, same-count}
 use Rattle.stream.specs.Input.{reached}
-use Rattle.stream.proofs.Unique.{same-place}
+use Rattle.facts.proofs.Slices.{same-place}
 use Rattle.intake_lines.specs.Output.{Turn, stop, go}
 use Rattle.intake_lines.specs.Contract.{Headed, refused, found, Turned, stopped, went}
 use Rattle.intake_lines.specs.declared.Progress.{Progress}

@@ -11,7 +11,7 @@ use mathlib.Core.Bool.{Bool, true, false}
 use mathlib.Core.List.{List, [], _∷_}
 use Prim.Native.Nat.{ℕ, _+_, _-_, _≤_, _<_}
 use lib.ListN.{length, take, drop}
-use Rattle.elements.specs.Read.{refuse, got}
+use Rattle.grammar.specs.Read.{refuse, got}
 use Rattle.lines.specs.Line.{line}
 use Rattle.lines.specs.Contract.{Wrote}
 use Rattle.stream.specs.Input.{templateIn, afterTemplate, reached}

@@ -18,7 +18,7 @@ use Prim.Native.Nat.{ℕ, zero, suc, _+_}
 use lib.Dec.{eqb}
 use lib.ListN.{length, take, replicate}
 use lib.IntN.{ℤ}
-use Rattle.elements.specs.Read.{Read, refuse, got}
+use Rattle.grammar.specs.Read.{Read, refuse, got}
 use Rattle.matching.specs.Answer.{Given, given, matchAnswer}
 use Rattle.lines.specs.Line.{line}
 use Rattle.stream.specs.Input.{listHere, reached}

@@ -10,7 +10,7 @@ use lib.Seq.{take-append-seam}
 use lib.IntN.{ℤ}
 use borrow.Author.Tests.{eq-eqb}
 use Rattle.facts.proofs.Cases.{by-test}
-use Rattle.elements.specs.Read.{Read, refuse, got}
+use Rattle.grammar.specs.Read.{Read, refuse, got}
 use Rattle.lines.specs.Line.{line}
 use Rattle.lines.specs.Contract.{Wrote}
 use Rattle.stream.specs.Input.{listHere}

@@ -15,13 +15,13 @@ use Rattle.rows.specs.Rows.{may}
 use Rattle.facts.proofs.Cases.{below, and-right, both, clash, not-so}
 use Rattle.byte_order.proofs.ByteOrder.{first-same}
 use Rattle.blocks.specs.Pieces.{Cuts, Fills, Inside, Best, Passing}
-use Rattle.elements.specs.Element.{Elem}
-use Rattle.elements.specs.Leaf.{Leaf, leafHead}
-use Rattle.template.specs.Template.{Item, grouped, one, spares, permutation, Body, recordOf, setOf, superset, subset, Length, anyLength, between, template, membersOfGroup, membersOfItem, membersOfItems, membersOf}
-use Rattle.template.specs.Whole.{readTemplate}
-use Rattle.elements.specs.Matches.{matches}
-use Rattle.template.specs.Members.{memberHits}
-use Rattle.template.specs.Blocks.{blockOfGroup, blockOfItem, blocksOfItems, blocksOf, bodyKind, lowOf, highOf, Standing}
+use Rattle.grammar.specs.Element.{Elem}
+use Rattle.grammar.specs.Leaf.{Leaf, leafHead}
+use Rattle.grammar.specs.Template.{Item, grouped, one, spares, permutation, Body, recordOf, setOf, superset, subset, Length, anyLength, between, template, membersOfGroup, membersOfItem, membersOfItems, membersOf}
+use Rattle.grammar.specs.Whole.{readTemplate}
+use Rattle.grammar.specs.Matches.{matches}
+use Rattle.grammar.specs.Members.{memberHits}
+use Rattle.grammar.specs.Blocks.{blockOfGroup, blockOfItem, blocksOfItems, blocksOf, bodyKind, lowOf, highOf, Standing}
 use Rattle.member_rows.specs.Contract.{Planned, PlanOf, noPlan, aPlan, RowsOf}
 use Rattle.member_rows.specs.declared.Plan.{Plan}
 use Rattle.matching.specs.Obeys.{rightBytes, noneTwice, bodyMet, lengthMet, obeysBy, obeys}

@@ -12,8 +12,8 @@ use Prim.Native.Nat.{ℕ, _≤_}
 use lib.ListN.{length, take, drop}
 use lib.IntN.{ℤ}
 use Rattle.blocks.specs.Pieces.{Best}
-use Rattle.elements.specs.Leaf.{Leaf}
-use Rattle.template.specs.Template.{Body, Length, Template, template}
+use Rattle.grammar.specs.Leaf.{Leaf}
+use Rattle.grammar.specs.Template.{Body, Length, Template, template}
 use Rattle.member_rows.specs.Contract.{Planned}
 use Rattle.member_rows.specs.declared.Plan.{Plan}
 use Rattle.matching.specs.Obeys.{obeys}

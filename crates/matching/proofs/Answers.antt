@@ -11,11 +11,11 @@ use borrow.Author.Tests.{le-ltb, lt-ltb, eq-eqb, ne-eqb}
 use lib.ListN.{length, drop}
 use lib.IntN.{ℤ}
 use Rattle.byte_order.specs.ByteOrder.{First}
-use Rattle.elements.specs.Leaf.{Leaf, leafHead}
-use Rattle.elements.specs.Read.{refuse, got}
-use Rattle.template.specs.Template.{Template, template}
-use Rattle.template.specs.Whole.{readTemplate}
-use Rattle.template.proofs.MemberLimit.{accepted-few}
+use Rattle.grammar.specs.Leaf.{Leaf, leafHead}
+use Rattle.grammar.specs.Read.{refuse, got}
+use Rattle.grammar.specs.Template.{Template, template}
+use Rattle.grammar.specs.Whole.{readTemplate}
+use Rattle.grammar.proofs.MemberLimit.{accepted-few}
 use Rattle.matching.specs.Obeys.{obeys}
 use Rattle.matching.specs.Search.{Maybe, nothing, just, membersCount, firstWitness}
 use Rattle.matching.specs.Answer.{given, written, matchRead, matchAnswer, judgeRead, judgeAnswer, Taken}

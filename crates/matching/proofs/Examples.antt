@@ -6,11 +6,11 @@ use Prim.Native.Nat.{ℕ}
 use lib.IntN.{pos}
 use Rattle.facts.specs.Counting.{between, cnt}
 use Rattle.blocks.specs.Assignment.{allOnce}
-use Rattle.elements.specs.Element.{Elem, leaf}
-use Rattle.elements.specs.Leaf.{Leaf, single, any}
-use Rattle.elements.specs.Matches.{matchesBy, leafMatches}
-use Rattle.template.specs.Template.{noStar, star, grouped, spares, recordOf, setOf, superset, subset, anyLength, Template, template, membersOfGroup, membersOfItem, membersOfItems, membersOf}
-use Rattle.template.specs.Members.{memberHits}
+use Rattle.grammar.specs.Element.{Elem, leaf}
+use Rattle.grammar.specs.Leaf.{Leaf, single, any}
+use Rattle.grammar.specs.Matches.{matchesBy, leafMatches}
+use Rattle.grammar.specs.Template.{noStar, star, grouped, spares, recordOf, setOf, superset, subset, anyLength, Template, template, membersOfGroup, membersOfItem, membersOfItems, membersOf}
+use Rattle.grammar.specs.Members.{memberHits}
 use Rattle.matching.specs.Obeys.{rightBytes, noneTwice, allSpare, withinBlock, starMet, groupTakes, itemTakes, someCut, cuts, bodyMet, lengthMet, obeysBy, obeys}
 use Rattle.matching.specs.Search.{just, put, orElse, tryEach, firstOf, from, membersCount, firstWitness}
 

@@ -12,11 +12,11 @@ use lib.IntN.{ℤ}
 use Rattle.byte_order.specs.ByteOrder.{earlier, First}
 use Rattle.facts.proofs.Cases.{and-left, and-right, one-of, same?, below}
 use Rattle.byte_order.proofs.ByteOrder.{earlier-total}
-use Rattle.elements.specs.Element.{Elem}
-use Rattle.elements.specs.Leaf.{Leaf}
-use Rattle.template.specs.Template.{Template, template, membersOf}
-use Rattle.elements.specs.Matches.{matches}
-use Rattle.template.specs.Members.{memberHits}
+use Rattle.grammar.specs.Element.{Elem}
+use Rattle.grammar.specs.Leaf.{Leaf}
+use Rattle.grammar.specs.Template.{Template, template, membersOf}
+use Rattle.grammar.specs.Matches.{matches}
+use Rattle.grammar.specs.Members.{memberHits}
 use Rattle.matching.specs.Obeys.{spare, rightBytes, noneTwice, bodyMet, lengthMet, obeysBy, obeys}
 use Rattle.matching.proofs.RulesByBlocks.{hits-low}
 use Rattle.matching.specs.Search.{Maybe, nothing, just, put, orElse, tryEach, firstOf, from, bytesOf, membersCount, firstWitness}

@@ -17,10 +17,10 @@ use Rattle.facts.proofs.Cases.{and-left, and-right, both, one-of, or-left, or-r
 use Rattle.facts.proofs.Counting.{cnt-append}
 use Rattle.blocks.proofs.Assignments.{once-test, test-once}
 use Rattle.blocks.specs.Pieces.{Takes, Cuts, Fills}
-use Rattle.elements.specs.Element.{Elem}
-use Rattle.template.specs.Template.{grouped, Item, one, spares, permutation, Body, recordOf, setOf, superset, subset, Length, template, membersOfGroup, membersOfItem, membersOfItems, membersOf}
-use Rattle.template.specs.Members.{memberHits}
-use Rattle.template.specs.Blocks.{block, blockOfGroup, blockOfItem, blocksOfItems, blocksOf}
+use Rattle.grammar.specs.Element.{Elem}
+use Rattle.grammar.specs.Template.{grouped, Item, one, spares, permutation, Body, recordOf, setOf, superset, subset, Length, template, membersOfGroup, membersOfItem, membersOfItems, membersOf}
+use Rattle.grammar.specs.Members.{memberHits}
+use Rattle.grammar.specs.Blocks.{block, blockOfGroup, blockOfItem, blocksOfItems, blocksOf}
 use Rattle.matching.specs.Obeys.{spare, rightBytes, noneTwice, someCut, cuts, itemTakes, bodyMet, lengthMet, obeysBy}
 use Rattle.matching.proofs.ItemsAsBlocks.{MayByte, MayAll, may-append, may-left, may-right, Within, Once, length-once, cnt-outside, Piece, PieceOf, takes-piece, piece-takes, group-says, group-test, item-says, item-test}
 

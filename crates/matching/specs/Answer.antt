@@ -14,10 +14,10 @@ use Prim.Native.Nat.{ℕ, _≤_}
 use lib.Dec.{ltb, eqb}
 use lib.ListN.{length, drop}
 use lib.IntN.{ℤ}
-use Rattle.elements.specs.Leaf.{Leaf, leafHead}
-use Rattle.template.specs.Template.{Template}
-use Rattle.elements.specs.Read.{Read, refuse, got}
-use Rattle.template.specs.Whole.{readTemplate}
+use Rattle.grammar.specs.Leaf.{Leaf, leafHead}
+use Rattle.grammar.specs.Template.{Template}
+use Rattle.grammar.specs.Read.{Read, refuse, got}
+use Rattle.grammar.specs.Whole.{readTemplate}
 use Rattle.matching.specs.Obeys.{obeys}
 use Rattle.matching.specs.Search.{Maybe, nothing, just, firstWitness}
 

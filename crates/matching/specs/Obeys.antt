@@ -24,11 +24,11 @@ use lib.ListN.{length, take, drop}
 use lib.IntN.{ℤ}
 use Rattle.facts.specs.Counting.{between, cnt}
 use Rattle.blocks.specs.Assignment.{allOnce}
-use Rattle.elements.specs.Element.{Elem}
-use Rattle.elements.specs.Leaf.{Leaf}
-use Rattle.template.specs.Template.{Star, noStar, star, Group, grouped, Item, one, spares, permutation, Body, recordOf, setOf, superset, subset, Length, anyLength, between as lengthBetween, Template, template, membersOfItem, membersOf}
-use Rattle.elements.specs.Matches.{matches}
-use Rattle.template.specs.Members.{memberHits}
+use Rattle.grammar.specs.Element.{Elem}
+use Rattle.grammar.specs.Leaf.{Leaf}
+use Rattle.grammar.specs.Template.{Star, noStar, star, Group, grouped, Item, one, spares, permutation, Body, recordOf, setOf, superset, subset, Length, anyLength, between as lengthBetween, Template, template, membersOfItem, membersOf}
+use Rattle.grammar.specs.Matches.{matches}
+use Rattle.grammar.specs.Members.{memberHits}
 
 abbrev pub spare : ℕ
 spare = 255

@@ -14,8 +14,8 @@ use mathlib.Core.List.{List, [], _∷_}
 use Prim.Native.Nat.{ℕ, zero, suc}
 use lib.ListN.{length}
 use lib.IntN.{ℤ}
-use Rattle.elements.specs.Leaf.{Leaf}
-use Rattle.template.specs.Template.{Template, template, membersOf}
+use Rattle.grammar.specs.Leaf.{Leaf}
+use Rattle.grammar.specs.Template.{Template, template, membersOf}
 use Rattle.matching.specs.Obeys.{spare, obeys}
 
 pub data Maybe : Type 0 where

@@ -5,12 +5,12 @@ use Prim.Native.Nat.{ℕ}
 use native.Mathlib.Omega.{arith}
 use lib.ListN.{take}
 use lib.Seq.{take-append-seam}
-use Rattle.elements.specs.Leaf.{leafHead}
-use Rattle.elements.specs.Read.{refuse}
-use Rattle.template.specs.Blocks.{blocksOf}
+use Rattle.grammar.specs.Leaf.{leafHead}
+use Rattle.grammar.specs.Read.{refuse}
+use Rattle.grammar.specs.Blocks.{blocksOf}
 use Rattle.template.specs.Layouts.{LayoutOf, nothingLaid, allLaid}
 use Rattle.template.specs.declared.Layout.{Layout}
-use Rattle.template.proofs.MemberLimit.{accepted-few}
+use Rattle.grammar.proofs.MemberLimit.{accepted-few}
 use Rattle.blocks.specs.declared.Block.{Block}
 use Rattle.member_rows.specs.Contract.{PlanOf, noPlan, aPlan}
 

@@ -14,16 +14,16 @@ use mir.Val.{toZ, ofZ, SFits}
 use mir.Facts.{toZ-ofZ}
 use Rattle.integers.specs.Integer.{Word}
 use Rattle.facts.proofs.Cases.{below, same?}
-use Rattle.elements.specs.Element.{Elem}
-use Rattle.elements.specs.Leaf.{Leaf}
-use Rattle.template.specs.Blocks.{StandsAt, Standing}
-use Rattle.elements.specs.Matches.{matches}
+use Rattle.grammar.specs.Element.{Elem}
+use Rattle.grammar.specs.Leaf.{Leaf}
+use Rattle.grammar.specs.Blocks.{StandsAt, Standing}
+use Rattle.grammar.specs.Matches.{matches}
 use Rattle.element_match.specs.Contract.{ElementAt, HitAt}
 use Rattle.element_match.proofs.LeafBounds.{Between}
 use Rattle.masks.specs.Masks.{bit, Plus}
 use Rattle.rows.specs.Rows.{may}
 use Rattle.rows.proofs.Rows.{row-may, zeros-may}
-use Rattle.template.specs.Members.{memberHits}
+use Rattle.grammar.specs.Members.{memberHits}
 use Rattle.member_rows.specs.Contract.{RowsOf}
 use Rattle.member_rows.specs.Places.{MembersAt, Marked, MarkedWithin, MarkedBy}
 

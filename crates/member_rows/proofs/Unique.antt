@@ -9,8 +9,8 @@ use lib.Seq.{length-take-le}
 use borrow.Fn.Kinds.{Dens, resT, endedOf}
 use contract.Lifetimes.{Lfts}
 use denote.Triple.Clauses.{AtExit}
-use Rattle.template.specs.Template.{Body, Length}
-use Rattle.elements.specs.Leaf.{Leaf}
+use Rattle.grammar.specs.Template.{Body, Length}
+use Rattle.grammar.specs.Leaf.{Leaf}
 use Rattle.member_rows.proofs.Agreeing.{rows-same}
 use Rattle.member_rows.specs.Contract.{Planned, PlanOf, noPlan, aPlan}
 use Rattle.member_rows.specs.declared.Plan.{Plan}

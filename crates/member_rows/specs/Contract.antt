@@ -10,15 +10,15 @@ use mathlib.Core.List.{List, []}
 use Prim.Native.Nat.{ℕ, _≤_, _<_}
 use lib.ListN.{length, getD, take}
 use lib.IntN.{ℤ, pos}
-use Rattle.elements.specs.Element.{Elem}
-use Rattle.template.specs.Template.{Body, Length, template, membersOf}
-use Rattle.elements.specs.Leaf.{Leaf, leafHead}
-use Rattle.elements.specs.Read.{refuse, got}
-use Rattle.template.specs.Whole.{readTemplate}
-use Rattle.elements.specs.Matches.{matches}
+use Rattle.grammar.specs.Element.{Elem}
+use Rattle.grammar.specs.Template.{Body, Length, template, membersOf}
+use Rattle.grammar.specs.Leaf.{Leaf, leafHead}
+use Rattle.grammar.specs.Read.{refuse, got}
+use Rattle.grammar.specs.Whole.{readTemplate}
+use Rattle.grammar.specs.Matches.{matches}
 use Rattle.rows.specs.Rows.{may}
-use Rattle.template.specs.Blocks.{blocksOf, bodyKind, lowOf, highOf, Standing}
-use Rattle.template.specs.Members.{memberHits}
+use Rattle.grammar.specs.Blocks.{blocksOf, bodyKind, lowOf, highOf, Standing}
+use Rattle.grammar.specs.Members.{memberHits}
 use Rattle.member_rows.specs.declared.Plan.{Plan}
 
 pub record Planned (t : List ℕ) (a : Length) (b : Body Leaf) (p : Plan) : Type 0 where

@@ -13,10 +13,10 @@ use lib.ListN.{length, getD, take}
 use lib.IntN.{ℤ, pos}
 use lib.Signed.{leZ}
 use Rattle.integers.specs.Integer.{Word}
-use Rattle.elements.specs.Element.{Elem}
-use Rattle.elements.specs.Leaf.{Leaf}
-use Rattle.template.specs.Blocks.{StandsAt, Standing}
-use Rattle.elements.specs.Matches.{matches}
+use Rattle.grammar.specs.Element.{Elem}
+use Rattle.grammar.specs.Leaf.{Leaf}
+use Rattle.grammar.specs.Blocks.{StandsAt, Standing}
+use Rattle.grammar.specs.Matches.{matches}
 use Rattle.rows.specs.Rows.{may}
 
 pub record MembersAt (t places : List ℕ) (members : ℕ) : Type 0 where

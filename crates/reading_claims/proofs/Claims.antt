@@ -6,12 +6,12 @@ use Prim.Native.Nat.{ℕ}
 use native.Mathlib.Omega.{arith}
 use lib.Dec.{ltb}
 use lib.ListN.{length}
-use Rattle.elements.specs.Element.{Elem}
-use Rattle.elements.specs.Leaf.{Leaf, leafHead}
-use Rattle.elements.specs.Read.{Read, refuse, got, orRefuse, verdict, ended}
-use Rattle.elements.specs.Reading.{Counted, counted, uncounted, outermost, readElement}
+use Rattle.grammar.specs.Element.{Elem}
+use Rattle.grammar.specs.Leaf.{Leaf, leafHead}
+use Rattle.grammar.specs.Read.{Read, refuse, got, orRefuse, verdict, ended}
+use Rattle.grammar.specs.Reading.{Counted, counted, uncounted, outermost, readElement}
 use Rattle.elements.specs.Contract.{rejected, accepted}
-use Rattle.elements.proofs.RefusalNumbers.{Row, Refusals, elem-numbers}
+use Rattle.grammar.proofs.RefusalNumbers.{Row, Refusals, elem-numbers}
 use Rattle.integers.proofs.FourBytes.{intAt-intBytes, intBytes-signed}
 use Rattle.integers.proofs.Ranks.{low, rank-ltZ, rank-leZ, low-eqZ, word-next, rank-next, word-prev, rank-prev}
 use Rattle.reading_claims.specs.Claims.{ReadsBack, WritesBack, OrderKept, Neighbours, NumberGiven, AcceptedAtZero, NeverNine}

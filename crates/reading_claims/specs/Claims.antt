@@ -15,9 +15,9 @@ use lib.IntN.{ℤ, pos, _+ℤ_, _-ℤ_}
 use lib.Signed.{ltZ, leZ}
 use Rattle.integers.specs.Integer.{Word, joined, signed, intAt, intBytes, eqZ}
 use Rattle.integers.specs.Rank.{rank}
-use Rattle.elements.specs.Leaf.{leafHead}
-use Rattle.elements.specs.Read.{Read, got, verdict}
-use Rattle.elements.specs.Reading.{readElement}
+use Rattle.grammar.specs.Leaf.{leafHead}
+use Rattle.grammar.specs.Read.{Read, got, verdict}
+use Rattle.grammar.specs.Reading.{readElement}
 use Rattle.elements.specs.Contract.{Answered}
 
 -- ---- integers

@@ -5,11 +5,11 @@ use mathlib.Core.Logic.{⊎-elim}
 use mathlib.Core.List.{List, []}
 use Prim.Native.Nat.{ℕ}
 use lib.IntN.{ℤ}
-use Rattle.elements.specs.Leaf.{Leaf, leafHead}
-use Rattle.template.specs.Template.{Template}
-use Rattle.elements.specs.Read.{got}
-use Rattle.template.specs.Whole.{readTemplate}
-use Rattle.template.proofs.RefusalNumbers.{Cases, isRefused, isRead, read-cases}
+use Rattle.grammar.specs.Leaf.{Leaf, leafHead}
+use Rattle.grammar.specs.Template.{Template}
+use Rattle.grammar.specs.Read.{got}
+use Rattle.grammar.specs.Whole.{readTemplate}
+use Rattle.grammar.proofs.RefusalNumbers.{Cases, isRefused, isRead, read-cases}
 use Rattle.matching.proofs.Answers.{few-members}
 use Rattle.reasons.specs.Reason.{ShortGroup, Chosen}
 use Rattle.why.specs.Why.{Asked, ofNothing, ofGroups, askedOf, GroupOf, GroupRead, numberOf, WhyOf}

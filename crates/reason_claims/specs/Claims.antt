@@ -20,10 +20,10 @@ use lib.ListN.{length}
 use lib.IntN.{ℤ}
 use Rattle.facts.specs.Counting.{count}
 use Rattle.masks.specs.Masks.{bit}
-use Rattle.elements.specs.Leaf.{Leaf, leafHead}
-use Rattle.elements.specs.Read.{got}
-use Rattle.template.specs.Template.{Template}
-use Rattle.template.specs.Whole.{readTemplate}
+use Rattle.grammar.specs.Leaf.{Leaf, leafHead}
+use Rattle.grammar.specs.Read.{got}
+use Rattle.grammar.specs.Template.{Template}
+use Rattle.grammar.specs.Whole.{readTemplate}
 use Rattle.matching.specs.Obeys.{obeys}
 use Rattle.matching.specs.Answer.{given, matchAnswer, Taken}
 use Rattle.assign.specs.Widest.{Widest}

@@ -16,10 +16,10 @@ use borrow.Author.Tests.{eq-eqb, ne-eqb}
 use Rattle.facts.specs.Counting.{oneIf, cnt, count, total, onlyIf, each, places}
 use Rattle.facts.proofs.Cases.{below, holds?, clash, and-left, and-right, both}
 use Rattle.facts.proofs.Spans.{between-in, between-to}
-use Rattle.assign.specs.Saturate.{fits, Partly}
+use Rattle.refining.specs.AsBytes.{fits, Partly}
 use Rattle.assign.specs.Widest.{Closed, Widest}
 use Rattle.facts.proofs.Counting.{count-le, count-less, double-count}
-use Rattle.assign.proofs.AsThirtyTwoBytes.{within-may, within-piece, fits-block, fits-within}
+use Rattle.refining.proofs.AsThirtyTwoBytes.{within-may, within-piece, fits-block, fits-within}
 use Rattle.reasons.specs.Reason.{matched, sizeOf, Group, Most, Reason}
 use Rattle.reasons.specs.Grow.{Grown}
 use Rattle.facts.proofs.CountedSets.{count-filled, places-in, places-on}

@@ -13,8 +13,8 @@ use Rattle.blocks.specs.Pieces.{Cuts, Fills, Passing, Cutting, Filling}
 use Rattle.blocks.proofs.Assignments.{assigns-test, test-assigns, short-never}
 use Rattle.blocks.proofs.FirstLists.{best-found, best-unique, passing-holds, passing-unique}
 use Rattle.assign.proofs.Answers.{answer-complete, answer-unique}
-use Rattle.elements.specs.Element.{Elem}
-use Rattle.elements.specs.Leaf.{Leaf}
+use Rattle.grammar.specs.Element.{Elem}
+use Rattle.grammar.specs.Leaf.{Leaf}
 use Rattle.member_rows.proofs.Agreeing.{Says, rows-say, says-same}
 use Rattle.search_claims.specs.Claims.{Sound, Complete, Least, Unique, Explained, Tested, UniqueCut, UniqueFilling, CutPasses, CutFound, FillingPasses, FillingFound, NothingChanges, ColumnsOf, SameOfEveryPair}
 

@@ -30,10 +30,10 @@ use Rattle.blocks.specs.declared.Block.{Block}
 use Rattle.blocks.specs.Assignment.{Assigns, assigns, Short}
 use Rattle.blocks.specs.Pieces.{Cuts, Fills, Cutting, Filling, Passing}
 use Rattle.assign.specs.Answer.{Answer}
-use Rattle.elements.specs.Element.{Elem}
-use Rattle.elements.specs.Leaf.{Leaf}
-use Rattle.elements.specs.Matches.{matches}
-use Rattle.template.specs.Members.{memberHits}
+use Rattle.grammar.specs.Element.{Elem}
+use Rattle.grammar.specs.Leaf.{Leaf}
+use Rattle.grammar.specs.Matches.{matches}
+use Rattle.grammar.specs.Members.{memberHits}
 use Rattle.member_rows.specs.Contract.{RowsOf}
 
 -- ---- assignments

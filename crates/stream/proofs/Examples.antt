@@ -3,11 +3,11 @@ use mathlib.Core.Path.{_≡_, refl}
 use mathlib.Core.List.{[], _∷_}
 use lib.IntN.{pos, negsuc}
 use Rattle.integers.specs.Integer.{signed, intAt}
-use Rattle.elements.specs.Record.{countFault, boundsFault, groupHead, head}
-use Rattle.elements.specs.Leaf.{singleHead, rangeHead, leafHead}
-use Rattle.elements.specs.Read.{refuse, got, verdict, ended, mapRead}
-use Rattle.elements.specs.Reading.{uncounted, putFirst, thenMore, many, closed, tooDeep, opened, elem}
-use Rattle.template.specs.Whole.{starHere, numbered, putMember, thenMembers, thenStar, putItem, thenItems, clashes, member, members, permutationHere, item, items, contents, bodyHere, templateHere, readTemplate}
+use Rattle.grammar.specs.Record.{countFault, boundsFault, groupHead, head}
+use Rattle.grammar.specs.Leaf.{singleHead, rangeHead, leafHead}
+use Rattle.grammar.specs.Read.{refuse, got, verdict, ended, mapRead}
+use Rattle.grammar.specs.Reading.{uncounted, putFirst, thenMore, many, closed, tooDeep, opened, elem}
+use Rattle.grammar.specs.Whole.{starHere, numbered, putMember, thenMembers, thenStar, putItem, thenItems, clashes, member, members, permutationHere, item, items, contents, bodyHere, templateHere, readTemplate}
 use Rattle.stream.specs.Input.{recordFault, putInteger, integers, listFault, listHere, reached}
 
 -- a list of two integers, and a byte after it

@@ -14,11 +14,12 @@ use borrow.Author.Tests.{ltb-false, lt-ltb, le-ltb, eq-eqb, ne-eqb, eqb-true, eq
 use Rattle.integers.specs.Integer.{intAt}
 use Rattle.facts.proofs.Cases.{by-test}
 use Rattle.integers.proofs.FourBytes.{intAt-drop}
-use Rattle.elements.specs.Record.{kindOf}
-use Rattle.elements.specs.Read.{Read, refuse, got, refuseOr}
-use Rattle.elements.proofs.Records.{kind-at}
+use Rattle.grammar.specs.Record.{kindOf}
+use Rattle.grammar.specs.Read.{Read, refuse, got, refuseOr}
+use Rattle.grammar.proofs.RecordParts.{kind-at}
 use Rattle.stream.specs.Input.{recordFault, putInteger, integers, listFault, listHere}
 use Rattle.stream.specs.Contract.{zeros, Listed, faulty, read}
+use Rattle.grammar.proofs.ReadApart.{refuse-is}
 
 -- ---- a record's own fault
 
@@ -71,10 +72,6 @@ prefixed-more : (ys : List ℤ) (x : ℤ) (o : Read (List ℤ)) → prefixed ys 
 unfolding putInteger
 prefixed-more ys x (refuse r) = refl
 prefixed-more ys x (got xs s) = ap (λ (l : List ℤ). got l s) (sym (append-assoc ys (x ∷ []) xs))
-
-pub refuse-is : {A : Type 0} (r : ℕ) (o : Read A) → (r ≡ 0 → ⊥) → refuseOr r o ≡ refuse r
-refuse-is zero o n = absurd (n refl)
-refuse-is (suc r) o n = refl
 
 integers-stop : (m : ℕ) (s : List ℕ) (r : ℕ) → 0 < m → r ≡ recordFault 0x01 5 s → (r ≡ 0 → ⊥) → integers m s ≡ refuse r
 unfolding integers

@@ -6,7 +6,7 @@ use native.Mathlib.Omega.{arith}
 use lib.ListN.{length, getD, drop, length-drop}
 use lib.IntN.{ℤ}
 use Rattle.integers.specs.Integer.{intAt}
-use Rattle.elements.specs.Read.{Read, refuse, got, refuseOr}
+use Rattle.grammar.specs.Read.{Read, refuse, got, refuseOr}
 use Rattle.stream.specs.Input.{recordFault, putInteger, integers, listFault, listHere}
 use Rattle.stream.specs.Contract.{Listed, faulty, read}
 use Rattle.stream.proofs.Lists.{list-inv}

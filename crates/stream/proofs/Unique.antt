@@ -3,13 +3,13 @@ use mathlib.Core.Path.{_≡_, sym, ap, ap₂, _∙_}
 use mathlib.Core.List.{List, _++_}
 use Prim.Native.Nat.{ℕ, _-_, _≤_}
 use native.Mathlib.Omega.{arith}
-use lib.ListN.{length, take, drop, length-drop, take-append-drop}
+use lib.ListN.{length, take, drop, take-append-drop}
 use lib.Seq.{length-take-le}
 use lib.IntN.{ℤ}
 use borrow.Fn.Kinds.{Dens, resT, endedOf}
 use contract.Lifetimes.{Lfts}
 use denote.Triple.Clauses.{AtExit}
-use Rattle.elements.specs.Read.{Read, refuse, got}
+use Rattle.grammar.specs.Read.{Read, refuse, got}
 use Rattle.stream.specs.Contract.{zeros, Listed, faulty, read}
 use Rattle.stream.specs.declared.List.{List as ListResult}
 use Rattle.stream.proofs.record_fault.Reads as record-fault
@@ -18,6 +18,7 @@ use Rattle.stream.proofs.template_end.Reads as template-end
 use Rattle.stream.proofs.template_end.Kinds as template-end-kinds
 use Rattle.stream.proofs.read_list.Reads as read-list
 use Rattle.stream.proofs.read_list.Kinds as read-list-kinds
+use Rattle.facts.proofs.Slices.{same-place}
 
 pub record-fault-unique : (κs : Lfts 1) (a : Dens κs record-fault-kinds.ps) (r r′ : resT record-fault-kinds.r κs .Denot) (s s′ : AtExit (endedOf 1 record-fault-kinds.ps record-fault-kinds.r) κs)
     → record-fault.Post κs a r s → record-fault.Post κs a r′ s′ → r ≡ r′
@@ -43,9 +44,6 @@ refusal-same o r r′ p q = cc
 
 got-same : (o : Read (List ℤ)) (xs xs′ : List ℤ) (s s′ : List ℕ) → o ≡ got xs s → o ≡ got xs′ s′ → (xs ≡ xs′) × (s ≡ s′)
 got-same o xs xs′ s s′ p q = (cc, cc)
-
-pub same-place : (t : List ℕ) (n n′ : ℕ) → n ≤ length t → n′ ≤ length t → drop n t ≡ drop n′ t → n ≡ n′
-same-place t n n′ h h′ e = let d = ap length e in let l = length-drop n t in let l′ = length-drop n′ t in omega arith
 
 module _ (n n′ : ℕ) (xs xs′ : List ℤ) (few : n ≤ 32) (few′ : n′ ≤ 32) (size : length xs ≡ 32) (size′ : length xs′ ≡ 32) (front : take n xs ≡ take n′ xs′) where
   count-same : n ≡ n′

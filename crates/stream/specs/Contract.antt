@@ -8,7 +8,7 @@ use mathlib.Core.List.{List}
 use Prim.Native.Nat.{ℕ, _-_, _≤_, _<_}
 use lib.ListN.{length, take, drop, replicate}
 use lib.IntN.{ℤ, pos}
-use Rattle.elements.specs.Read.{Read, refuse, got}
+use Rattle.grammar.specs.Read.{Read, refuse, got}
 
 abbrev pub zeros : ℕ → List ℤ
 zeros k = replicate k (pos 0)

@@ -19,10 +19,10 @@ use lib.Dec.{ltb, eqb}
 use lib.ListN.{length, getD, take, drop}
 use lib.IntN.{ℤ}
 use Rattle.integers.specs.Integer.{intAt}
-use Rattle.elements.specs.Record.{kindOf}
-use Rattle.elements.specs.Leaf.{leafHead}
-use Rattle.elements.specs.Read.{Read, refuse, got, orRefuse, refuseOr, verdict}
-use Rattle.template.specs.Whole.{readTemplate}
+use Rattle.grammar.specs.Record.{kindOf}
+use Rattle.grammar.specs.Leaf.{leafHead}
+use Rattle.grammar.specs.Read.{Read, refuse, got, orRefuse, refuseOr, verdict}
+use Rattle.grammar.specs.Whole.{readTemplate}
 
 unfoldable pub recordFault : ℕ → ℕ → List ℕ → ℕ
 recordFault kind size s =

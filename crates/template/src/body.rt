@@ -3,16 +3,11 @@ ghost use mathlib.Core.Path.{_≡_};
 ghost use Prim.Native.Nat.{_≤_};
 ghost use lib.Dec.{eqb};
 ghost use lib.ListN.{length, drop};
-ghost use Rattle.elements.specs.Leaf.{leafHead};
-ghost use Rattle.template.specs.Template.{noStar};
-ghost use Rattle.template.specs.Whole.{fewest, clashes, members, items, contents, bodyHere, templateHere};
+ghost use Rattle.grammar.specs.Leaf.{leafHead};
+ghost use Rattle.grammar.specs.Template.{noStar};
+ghost use Rattle.grammar.specs.Whole.{fewest, clashes, members, items, contents, bodyHere, templateHere};
 ghost use Rattle.template.specs.Layouts.{lengthOf, RecordNotes, KindNotes, Outlined, TemplateNotes, Bounds};
-ghost use Rattle.template.specs.Notes.{Noted};
-use crate::group::scan_members;
-use crate::item::no_block;
-use crate::item::scan_item;
-use crate::record::bounds_fault;
-use crate::record::kind_at;
+ghost use Rattle.items.specs.Notes.{Noted};
 use blocks::Block;
 use elements::count_fault;
 use format::BAD_KIND;
@@ -26,6 +21,11 @@ use format::RECORD_OF;
 use format::SET_OF;
 use format::SUBSET;
 use format::SUPERSET;
+use items::group::scan_members;
+use items::item::no_block;
+use items::item::scan_item;
+use items::record::bounds_fault;
+use items::record::kind_at;
 
 // A body: a refusal, or 0; the place after it; the least and greatest length of the list; its kind; its blocks, the first `count`; the
 // members.

@@ -10,14 +10,14 @@ use Rattle.integers.specs.Integer.{signed, intAt}
 use Rattle.masks.specs.Masks.{bit}
 use Rattle.facts.specs.Counting.{between, cnt, count, anyBelow}
 use Rattle.blocks.specs.Assignment.{allOnce, wanted}
-use Rattle.template.specs.Template.{Template, membersOfGroup, membersOfItem, membersOfItems, membersOf}
-use Rattle.elements.specs.Record.{countFault, boundsFault, groupHead, head}
-use Rattle.elements.specs.Leaf.{Leaf, singleHead, rangeHead, leafHead}
-use Rattle.elements.specs.Read.{Read, refuse, got, ended, mapRead}
-use Rattle.elements.specs.Reading.{uncounted, putFirst, thenMore, many, closed, tooDeep, opened, elem}
-use Rattle.template.specs.Whole.{starHere, numbered, putMember, thenMembers, thenStar, putItem, thenItems, clashes, member, members, permutationHere, item, items, contents, bodyHere, templateHere, readTemplate}
-use Rattle.elements.specs.Matches.{matchesBy, leafMatches}
-use Rattle.template.specs.Members.{memberHits}
+use Rattle.grammar.specs.Template.{Template, membersOfGroup, membersOfItem, membersOfItems, membersOf}
+use Rattle.grammar.specs.Record.{countFault, boundsFault, groupHead, head}
+use Rattle.grammar.specs.Leaf.{Leaf, singleHead, rangeHead, leafHead}
+use Rattle.grammar.specs.Read.{Read, refuse, got, ended, mapRead}
+use Rattle.grammar.specs.Reading.{uncounted, putFirst, thenMore, many, closed, tooDeep, opened, elem}
+use Rattle.grammar.specs.Whole.{starHere, numbered, putMember, thenMembers, thenStar, putItem, thenItems, clashes, member, members, permutationHere, item, items, contents, bodyHere, templateHere, readTemplate}
+use Rattle.grammar.specs.Matches.{matchesBy, leafMatches}
+use Rattle.grammar.specs.Members.{memberHits}
 use Rattle.matching.specs.Obeys.{rightBytes, noneTwice, allSpare, withinBlock, starMet, groupTakes, itemTakes, someCut, cuts, bodyMet, lengthMet, obeysBy}
 use Rattle.matching.specs.Search.{put, orElse, tryEach, firstOf, from, membersCount, firstWitness}
 use Rattle.matching.specs.Answer.{written, matchRead, matchAnswer}

@@ -14,14 +14,14 @@ use lib.IntN.{ℤ, pos}
 use borrow.Author.Tests.{lt-ltb, eqb-true, eq-eqb}
 use Rattle.rows.specs.Rows.{may}
 use Rattle.facts.proofs.Cases.{clash, one-of, or-left, or-right}
-use Rattle.elements.specs.Element.{Elem}
-use Rattle.elements.specs.Leaf.{Leaf, leafHead}
-use Rattle.template.specs.Template.{Body, recordOf, setOf, superset, subset, Length, Template, template, membersOf}
-use Rattle.elements.specs.Read.{got}
-use Rattle.template.specs.Whole.{readTemplate}
-use Rattle.template.specs.Blocks.{bodyKind, Standing}
-use Rattle.elements.specs.Matches.{matches}
-use Rattle.template.specs.Members.{memberHits}
+use Rattle.grammar.specs.Element.{Elem}
+use Rattle.grammar.specs.Leaf.{Leaf, leafHead}
+use Rattle.grammar.specs.Template.{Body, recordOf, setOf, superset, subset, Length, Template, template, membersOf}
+use Rattle.grammar.specs.Read.{got}
+use Rattle.grammar.specs.Whole.{readTemplate}
+use Rattle.grammar.specs.Blocks.{bodyKind, Standing}
+use Rattle.grammar.specs.Matches.{matches}
+use Rattle.grammar.specs.Members.{memberHits}
 use Rattle.member_rows.specs.Contract.{Planned, PlanOf, noPlan, aPlan, RowsOf}
 use Rattle.member_rows.specs.declared.Plan.{Plan}
 use Rattle.matching.specs.Obeys.{lengthMet}

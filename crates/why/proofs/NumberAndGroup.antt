@@ -15,11 +15,11 @@ use borrow.Author.Tests.{le-ltb, ltb-false}
 use Rattle.facts.proofs.Cases.{by-test, same?}
 use Rattle.masks.specs.Masks.{bit}
 use Rattle.masks.proofs.Masks.{bit-none, bits-same}
-use Rattle.elements.specs.Leaf.{Leaf, leafHead}
-use Rattle.template.specs.Template.{Template}
-use Rattle.elements.specs.Read.{Read, refuse, got}
-use Rattle.template.specs.Whole.{readTemplate}
-use Rattle.template.proofs.RefusalNumbers.{Cases, isRefused, isRead, read-cases}
+use Rattle.grammar.specs.Leaf.{Leaf, leafHead}
+use Rattle.grammar.specs.Template.{Template}
+use Rattle.grammar.specs.Read.{Read, refuse, got}
+use Rattle.grammar.specs.Whole.{readTemplate}
+use Rattle.grammar.proofs.RefusalNumbers.{Cases, isRefused, isRead, read-cases}
 use Rattle.matching.specs.Search.{Maybe, nothing, just, firstWitness}
 use Rattle.matching.specs.Answer.{Given, written, matchRead, matchAnswer, Taken}
 use Rattle.matching.proofs.Answers.{few-members, matched-where, unmatched-where}

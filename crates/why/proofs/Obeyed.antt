@@ -19,12 +19,12 @@ use Rattle.blocks.specs.Assignment.{Assigns, allRight, allOnce, assigns}
 use Rattle.blocks.proofs.Assignments.{assigns-test, short-never}
 use Rattle.facts.proofs.Counting.{cnt-two}
 use Rattle.blocks.specs.Pieces.{Cuts, Fills}
-use Rattle.elements.specs.Element.{Elem}
-use Rattle.elements.specs.Leaf.{Leaf}
-use Rattle.template.specs.Template.{Body, recordOf, setOf, superset, subset, Length, Template, template, membersOf}
-use Rattle.template.specs.Blocks.{blocksOf}
-use Rattle.elements.specs.Matches.{matches}
-use Rattle.template.specs.Members.{memberHits}
+use Rattle.grammar.specs.Element.{Elem}
+use Rattle.grammar.specs.Leaf.{Leaf}
+use Rattle.grammar.specs.Template.{Body, recordOf, setOf, superset, subset, Length, Template, template, membersOf}
+use Rattle.grammar.specs.Blocks.{blocksOf}
+use Rattle.grammar.specs.Matches.{matches}
+use Rattle.grammar.specs.Members.{memberHits}
 use Rattle.matching.specs.Obeys.{lengthMet, obeys}
 use Rattle.matching.specs.Search.{membersCount}
 use Rattle.matching.proofs.ItemsAsBlocks.{right-split, length-once}

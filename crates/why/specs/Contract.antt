@@ -6,10 +6,10 @@ use mathlib.Core.Path.{_≡_}
 use mathlib.Core.List.{List, []}
 use Prim.Native.Nat.{ℕ}
 use lib.IntN.{ℤ}
-use Rattle.elements.specs.Leaf.{Leaf, leafHead}
-use Rattle.template.specs.Template.{Template}
-use Rattle.elements.specs.Read.{got}
-use Rattle.template.specs.Whole.{readTemplate}
+use Rattle.grammar.specs.Leaf.{Leaf, leafHead}
+use Rattle.grammar.specs.Template.{Template}
+use Rattle.grammar.specs.Read.{got}
+use Rattle.grammar.specs.Whole.{readTemplate}
 use Rattle.matching.specs.Answer.{Taken}
 use Rattle.reasons.specs.Reason.{Given}
 use Rattle.why.specs.Why.{Asked, ofNothing, ofGroups, askedOf}

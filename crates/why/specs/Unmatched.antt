@@ -8,11 +8,11 @@ use mathlib.Core.List.{List, []}
 use Prim.Native.Nat.{ℕ}
 use lib.ListN.{length}
 use lib.IntN.{ℤ}
-use Rattle.elements.specs.Element.{Elem}
-use Rattle.elements.specs.Leaf.{Leaf, leafHead}
-use Rattle.elements.specs.Read.{got}
-use Rattle.template.specs.Template.{superset, subset, Length, Template, template}
-use Rattle.template.specs.Whole.{readTemplate}
+use Rattle.grammar.specs.Element.{Elem}
+use Rattle.grammar.specs.Leaf.{Leaf, leafHead}
+use Rattle.grammar.specs.Read.{got}
+use Rattle.grammar.specs.Template.{superset, subset, Length, Template, template}
+use Rattle.grammar.specs.Whole.{readTemplate}
 use Rattle.matching.specs.Obeys.{obeys, lengthMet}
 use Rattle.matching.specs.Answer.{Taken}
 

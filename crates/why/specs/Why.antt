@@ -18,13 +18,13 @@ use lib.Dec.{ltb}
 use lib.ListN.{length, getD}
 use lib.IntN.{ℤ, pos}
 use Rattle.masks.specs.Masks.{bit}
-use Rattle.elements.specs.Element.{Elem}
-use Rattle.elements.specs.Leaf.{Leaf, leafHead}
-use Rattle.template.specs.Template.{Body, recordOf, setOf, superset, subset, Template, template}
-use Rattle.elements.specs.Read.{Read, refuse, got}
-use Rattle.template.specs.Whole.{readTemplate}
-use Rattle.elements.specs.Matches.{matches}
-use Rattle.template.specs.Members.{memberHits}
+use Rattle.grammar.specs.Element.{Elem}
+use Rattle.grammar.specs.Leaf.{Leaf, leafHead}
+use Rattle.grammar.specs.Template.{Body, recordOf, setOf, superset, subset, Template, template}
+use Rattle.grammar.specs.Read.{Read, refuse, got}
+use Rattle.grammar.specs.Whole.{readTemplate}
+use Rattle.grammar.specs.Matches.{matches}
+use Rattle.grammar.specs.Members.{memberHits}
 use Rattle.matching.specs.Obeys.{lengthMet}
 use Rattle.matching.specs.Answer.{Given, given, matchAnswer}
 use Rattle.reasons.specs.Reason.{ShortGroup, Reason}

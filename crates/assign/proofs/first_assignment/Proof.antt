@@ -7,7 +7,7 @@ use Rattle.rows.specs.Rows.{may, picks}
 use Rattle.assign.specs.Answer.{Answer}
 use Rattle.assign.specs.Saturate.{Saturated}
 use Rattle.assign.proofs.PieceOfBytes.{answer-found, answer-none}
-use Rattle.assign.proofs.AsThirtyTwoBytes.{partly-same}
+use Rattle.refining.proofs.AsThirtyTwoBytes.{partly-same}
 use Rattle.assign.proofs.LeastFree.{greedy-done}
 use Rattle.assign.proofs.SameRelation.{answer-same}
 use Rattle.rows.proofs.Rows.{turned-says}

@@ -3,7 +3,7 @@
 use native.Mathlib.Omega.{arith}
 use borrow.Author.Needs.{needs}
 use Rattle.facts.proofs.Spans.{between-to}
-use Rattle.assign.proofs.AsThirtyTwoBytes.{partly-same}
+use Rattle.refining.proofs.AsThirtyTwoBytes.{partly-same}
 use Rattle.rows.proofs.Rows.{turned-says}
 use Rattle.assign.proofs.AsManyAsCan.{widest-same}
 use Rattle.assign.proofs.widest_assignment.Statement.{statement}

@@ -7,16 +7,17 @@ use lib.ListN.{length, take, drop}
 use borrow.Author.Needs.{needs}
 use Rattle.rows.specs.Rows.{may}
 use Rattle.blocks.specs.declared.Block.{Block}
-use Rattle.cuts.specs.declared.Suffix.{Suffix}
+use Rattle.suffixes.specs.declared.Suffix.{Suffix}
 use Rattle.blocks.specs.Pieces.{Cuts}
-use Rattle.cuts.specs.Table.{Given, Tabled, shortest, longest, together}
+use Rattle.suffixes.specs.Suffixes.{Given}
+use Rattle.cuts.specs.Table.{Tabled, shortest, longest, together}
 use Rattle.cuts.proofs.Tables.{together-more, together-none, cut-start, cut-step, cut-end}
 use Rattle.blocks.proofs.Cutting.{cut-inside}
 use Rattle.cuts.proofs.first_cut.Statement.{statement}
 use Rattle.cuts.proofs.first_cut.Tie as tie
 use Rattle.cuts.proofs.first_cut.Reads as reads
 use Rattle.cuts.proofs.first_cut.Lts as lts
-use Rattle.cuts.proofs.cells.read.Reads as read-reads
+use Rattle.suffixes.proofs.cells.read.Reads as read-reads
 use Rattle.cuts.proofs.table.extent_of.Reads as extent-of-reads
 use Rattle.cuts.proofs.table.last.Reads as last-reads
 use Rattle.cuts.proofs.table.prepend.Reads as prepend-reads

@@ -6,8 +6,8 @@ use native.Mathlib.Omega.{arith}
 use native.Mathlib.Nat.{pos-of-ne-zero}
 use borrow.Author.Needs.{needs}
 use lib.ListN.{length, drop}
-use Rattle.elements.specs.Leaf.{leafHead}
-use Rattle.elements.specs.Reading.{many, elem}
+use Rattle.grammar.specs.Leaf.{leafHead}
+use Rattle.grammar.specs.Reading.{many, elem}
 use Rattle.elements.specs.Contract.{Scanned, leavesTo}
 use Rattle.elements.proofs.Scans.{scanned-refused, scanned-read, scan-fault, scan-deep, sound-fits, scan-group, scan-over, scan-leaf, all-step, all-stop, all-end}
 use Prim.Native.Nat.{ℕ, _<_}

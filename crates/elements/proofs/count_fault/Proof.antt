@@ -1,5 +1,5 @@
 -- `template::count_fault` meets its contract: each test of the code is the next test of `countFault`. Assumes nothing.
-use Rattle.elements.proofs.Records.{count-short, count-low, count-high, count-right}
+use Rattle.grammar.proofs.RecordParts.{count-short, count-low, count-high, count-right}
 -- `template::count_fault` meets its contract: each test of the code is the next test of `countFault`. Assumes nothing.
 use borrow.Author.Needs.{needs}
 use Rattle.elements.proofs.count_fault.Statement.{statement}

@@ -1,7 +1,8 @@
 -- `template::group_at` meets its contract: the fault is that of the count, and without one the parts follow. Assumes nothing.
 use mathlib.Core.Path.{sym, _∙_}
 use native.Mathlib.Omega.{arith}
-use Rattle.elements.proofs.Records.{count-inv, group-fault, group-right}
+use Rattle.grammar.proofs.RecordParts.{count-inv}
+use Rattle.elements.proofs.Records.{group-fault, group-right}
 use borrow.Author.Needs.{needs}
 use Rattle.elements.proofs.group_at.Statement.{statement}
 use Rattle.elements.proofs.group_at.Tie as tie

@@ -2,7 +2,7 @@
 use mathlib.Core.Bool.{true, false}
 use native.Mathlib.Omega.{arith}
 use Rattle.elements.specs.Contract.{faulty}
-use Rattle.elements.specs.Leaf.{leafHead}
+use Rattle.grammar.specs.Leaf.{leafHead}
 use Rattle.elements.proofs.Records.{head-none, head-list, head-complement, head-leaf, head-as}
 use borrow.Author.Needs.{needs}
 use Rattle.elements.proofs.head_at.Statement.{statement}

@@ -1,6 +1,6 @@
 -- `template::scan_element` meets its contract. Assumes nothing.
-use Rattle.elements.specs.Leaf.{leafHead}
-use Rattle.elements.specs.Reading.{uncounted, outermost, readElement}
+use Rattle.grammar.specs.Leaf.{leafHead}
+use Rattle.grammar.specs.Reading.{uncounted, outermost, readElement}
 use Rattle.elements.proofs.WholeInputs.{too-long, answer-refused, answer-left-over, answer-accepted, uncounted-scanned}
 use borrow.Author.Needs.{needs}
 use Rattle.elements.proofs.scan_element.Statement.{statement}

@@ -7,9 +7,9 @@ use native.Mathlib.Omega.{arith}
 use lib.ListN.{length, take}
 use mir.Syntax.{w64}
 use borrow.Kind.Array.{eInt, good-length}
-use Rattle.elements.specs.Element.{Elem}
-use Rattle.elements.specs.Leaf.{Leaf}
-use Rattle.template.specs.Blocks.{Standing}
+use Rattle.grammar.specs.Element.{Elem}
+use Rattle.grammar.specs.Leaf.{Leaf}
+use Rattle.grammar.specs.Blocks.{Standing}
 use Rattle.member_rows.proofs.RowByRow.{RowsTo, rows-start, rows-step, rows-end, element-there}
 use Rattle.member_rows.proofs.rows_of.Statement.{statement}
 use Rattle.member_rows.proofs.rows_of.Tie as tie

@@ -5,7 +5,7 @@ use Rattle.template.proofs.no_layout.Statement.{statement}
 use Rattle.template.proofs.no_layout.Tie as tie
 use Rattle.template.proofs.no_layout.Reads as reads
 use Rattle.template.proofs.no_layout.Lts as lts
-use Rattle.template.proofs.item.no_block.Reads as no-block-reads
+use Rattle.items.proofs.item.no_block.Reads as no-block-reads
 
 no-block-requires : tie.Need-no-block-requires
 no-block-requires c κs = search needs

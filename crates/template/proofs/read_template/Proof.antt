@@ -1,8 +1,8 @@
 -- `template::whole::read_template` meets its contract: 2 before everything, 10 after everything. Assumes nothing.
 use native.Mathlib.Omega.{arith}
-use Rattle.template.specs.Whole.{readTemplate}
+use Rattle.grammar.specs.Whole.{readTemplate}
 use Rattle.elements.proofs.WholeInputs.{too-long, answer-refused, answer-left-over}
-use Rattle.template.proofs.MemberPlaces.{noted-scanned}
+use Rattle.items.proofs.MemberPlaces.{noted-scanned}
 use Rattle.template.proofs.Bodies.{refused-layout, laid-out}
 use borrow.Author.Needs.{needs}
 use Rattle.template.proofs.read_template.Statement.{statement}

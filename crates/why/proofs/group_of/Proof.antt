@@ -5,7 +5,7 @@ use borrow.Author.Needs.{needs}
 use borrow.Author.Tests.{not-true, not-false}
 use Rattle.matcher.specs.Contract.{Ready}
 use Rattle.matcher.proofs.ByPlan.{planned-ready}
-use Rattle.template.specs.Template.{membersOf}
+use Rattle.grammar.specs.Template.{membersOf}
 use Rattle.why.proofs.Grouping.{group-long, group-many, group-refused, group-unmet, group-other, group-superset, group-subset, neither, the-other}
 use Rattle.why.proofs.group_of.Statement.{statement}
 use Rattle.why.proofs.group_of.Tie as tie

@@ -10,7 +10,7 @@ use Rattle.masks.specs.Masks.{bit}
 use Rattle.rows.specs.Rows.{picks}
 use Rattle.facts.specs.Counting.{count}
 use Rattle.chains.specs.Chain.{Opened}
-use Rattle.assign.specs.Saturate.{Partly}
+use Rattle.refining.specs.AsBytes.{Partly}
 use Rattle.facts.proofs.Spans.{between-to}
 use Rattle.masks.proofs.Masks.{bit-none}
 use Rattle.chains.proofs.Chains.{left-falls, opened-ready, opened-filled}

@@ -7,17 +7,18 @@ use native.Mathlib.Omega.{arith}
 use borrow.Author.Needs.{needs}
 use Rattle.rows.specs.Rows.{may}
 use Rattle.blocks.specs.declared.Block.{Block}
-use Rattle.cuts.specs.declared.Suffix.{Suffix}
+use Rattle.suffixes.specs.declared.Suffix.{Suffix}
 use Rattle.blocks.specs.Pieces.{Cuts}
-use Rattle.cuts.specs.Table.{Given, Tabled, CutBefore, shortest, longest}
+use Rattle.suffixes.specs.Suffixes.{Given}
+use Rattle.cuts.specs.Table.{Tabled, CutBefore, shortest, longest}
 use Rattle.cuts.proofs.Tables.{onward, place-start, place-step, place-end}
 use Rattle.cuts.proofs.table.at_place.Statement.{statement}
 use Rattle.cuts.proofs.table.at_place.Tie as tie
 use Rattle.cuts.proofs.table.at_place.Reads as reads
 use Rattle.cuts.proofs.table.at_place.Lts as lts
-use Rattle.cuts.proofs.cells.read.Reads as read-reads
-use Rattle.cuts.proofs.joins.joined.Reads as joined-reads
-use Rattle.cuts.proofs.joins.keep.Reads as keep-reads
+use Rattle.suffixes.proofs.cells.read.Reads as read-reads
+use Rattle.suffixes.proofs.joins.joined.Reads as joined-reads
+use Rattle.suffixes.proofs.joins.keep.Reads as keep-reads
 use Rattle.masks.proofs.lesser.Reads as lesser-reads
 
 abbrev Inv-loop : tie.InvT-loop

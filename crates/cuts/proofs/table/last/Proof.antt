@@ -5,7 +5,7 @@ use Rattle.cuts.proofs.table.last.Statement.{statement}
 use Rattle.cuts.proofs.table.last.Tie as tie
 use Rattle.cuts.proofs.table.last.Reads as reads
 use Rattle.cuts.proofs.table.last.Lts as lts
-use Rattle.cuts.proofs.cells.write.Reads as write-reads
+use Rattle.suffixes.proofs.cells.write.Reads as write-reads
 
 write-requires : tie.Need-write-requires
 write-requires c κs = search needs

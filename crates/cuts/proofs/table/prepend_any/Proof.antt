@@ -13,7 +13,7 @@ use Rattle.cuts.proofs.table.prepend_any.Statement.{statement}
 use Rattle.cuts.proofs.table.prepend_any.Tie as tie
 use Rattle.cuts.proofs.table.prepend_any.Reads as reads
 use Rattle.cuts.proofs.table.prepend_any.Lts as lts
-use Rattle.cuts.proofs.cells.write.Reads as write-reads
+use Rattle.suffixes.proofs.cells.write.Reads as write-reads
 use Rattle.cuts.proofs.table.at_place.Reads as at-place-reads
 
 abbrev Inv-loop : tie.InvT-loop

@@ -9,17 +9,18 @@ use lib.ListN.{length}
 use borrow.Author.Needs.{needs}
 use Rattle.rows.specs.Rows.{may}
 use Rattle.blocks.specs.declared.Block.{Block}
-use Rattle.cuts.specs.declared.Suffix.{Suffix}
+use Rattle.suffixes.specs.declared.Suffix.{Suffix}
 use Rattle.blocks.specs.Pieces.{Cuts}
-use Rattle.cuts.specs.Table.{Given, Tabled, shortest, longest}
+use Rattle.suffixes.specs.Suffixes.{Given}
+use Rattle.cuts.specs.Table.{Tabled, shortest, longest}
 use Rattle.cuts.proofs.Tables.{Walked, walk-start, walk-step, walk-end, even-end, even-none}
 use Rattle.cuts.proofs.table.prepend_even.Statement.{statement}
 use Rattle.cuts.proofs.table.prepend_even.Tie as tie
 use Rattle.cuts.proofs.table.prepend_even.Reads as reads
 use Rattle.cuts.proofs.table.prepend_even.Lts as lts
-use Rattle.cuts.proofs.cells.read.Reads as read-reads
-use Rattle.cuts.proofs.cells.write.Reads as write-reads
-use Rattle.cuts.proofs.joins.joined.Reads as joined-reads
+use Rattle.suffixes.proofs.cells.read.Reads as read-reads
+use Rattle.suffixes.proofs.cells.write.Reads as write-reads
+use Rattle.suffixes.proofs.joins.joined.Reads as joined-reads
 
 abbrev Inv-loop : tie.InvT-loop
 Inv-loop rows b t₀ low high n w size from₀ t from = (size ≡ b .k + b .min) × (low ≤ from) × (length t ≡ 1089)

@@ -9,17 +9,18 @@ use native.Mathlib.Omega.{arith}
 use lib.ListN.{length}
 use borrow.Author.Needs.{needs}
 use Rattle.blocks.specs.declared.Block.{Block}
-use Rattle.cuts.specs.declared.Suffix.{Suffix}
+use Rattle.suffixes.specs.declared.Suffix.{Suffix}
 use Rattle.blocks.specs.Pieces.{Cuts}
-use Rattle.cuts.specs.Table.{Given, Tabled, shortest, longest}
+use Rattle.suffixes.specs.Suffixes.{Given}
+use Rattle.cuts.specs.Table.{Tabled, shortest, longest}
 use Rattle.cuts.proofs.Tables.{Opened, opened-start, opened-step, open-step, open-short}
 use Rattle.cuts.proofs.table.prepend_open.Statement.{statement}
 use Rattle.cuts.proofs.table.prepend_open.Tie as tie
 use Rattle.cuts.proofs.table.prepend_open.Reads as reads
 use Rattle.cuts.proofs.table.prepend_open.Lts as lts
-use Rattle.cuts.proofs.cells.read.Reads as read-reads
-use Rattle.cuts.proofs.cells.write.Reads as write-reads
-use Rattle.cuts.proofs.joins.keep.Reads as keep-reads
+use Rattle.suffixes.proofs.cells.read.Reads as read-reads
+use Rattle.suffixes.proofs.cells.write.Reads as write-reads
+use Rattle.suffixes.proofs.joins.keep.Reads as keep-reads
 
 abbrev Inv-loop : tie.InvT-loop
 Inv-loop t₀ low n least best₀ old from₀ t best from = (from ≤ n + 1) × (length t ≡ 1089)

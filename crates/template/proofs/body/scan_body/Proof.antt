@@ -2,9 +2,9 @@
 use mathlib.Core.Path.{sym, _∙_}
 use Prim.Native.Nat.{_+_}
 use native.Mathlib.Omega.{arith}
-use Rattle.elements.specs.Leaf.{leafHead}
+use Rattle.grammar.specs.Leaf.{leafHead}
 use Rattle.template.proofs.WholeTemplates.{few-counted, body-none, body-low, body-high, body-count, body-clash, body-counts, body-right}
-use Rattle.template.proofs.MemberPlaces.{stopped-as}
+use Rattle.items.proofs.MemberPlaces.{stopped-as}
 use Rattle.template.proofs.Bodies.{body-noted}
 use borrow.Author.Needs.{needs}
 use Rattle.template.proofs.body.scan_body.Statement.{statement}

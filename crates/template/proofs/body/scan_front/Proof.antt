@@ -1,16 +1,17 @@
 -- `template::whole::scan_front` meets its contract: the first kind says whether a length attribute is there. Assumes nothing.
 use mathlib.Core.Path.{refl, sym, _∙_}
 use native.Mathlib.Omega.{arith}
-use Rattle.elements.specs.Leaf.{leafHead}
-use Rattle.template.proofs.WholeTemplates.{bounds-inv, front-plain, front-bounds, front-right}
-use Rattle.template.proofs.MemberPlaces.{noted-as, stopped-as}
+use Rattle.grammar.specs.Leaf.{leafHead}
+use Rattle.items.proofs.ItemRecords.{bounds-inv}
+use Rattle.template.proofs.WholeTemplates.{front-plain, front-bounds, front-right}
+use Rattle.items.proofs.MemberPlaces.{noted-as, stopped-as}
 use borrow.Author.Needs.{needs}
 use Rattle.template.proofs.body.scan_front.Statement.{statement}
 use Rattle.template.proofs.body.scan_front.Tie as tie
 use Rattle.template.proofs.body.scan_front.Reads as reads
 use Rattle.template.proofs.body.scan_front.Lts as lts
-use Rattle.template.proofs.record.bounds_fault.Reads as bounds-fault-reads
-use Rattle.template.proofs.record.kind_at.Reads as kind-at-reads
+use Rattle.items.proofs.record.bounds_fault.Reads as bounds-fault-reads
+use Rattle.items.proofs.record.kind_at.Reads as kind-at-reads
 use Rattle.template.proofs.body.no_outline.Reads as no-outline-reads
 use Rattle.template.proofs.body.scan_body.Reads as scan-body-reads
 

@@ -3,17 +3,17 @@ use mathlib.Core.Path.{ap}
 use mathlib.Core.Logic.{⊎-elim}
 use native.Mathlib.Omega.{arith}
 use lib.ListN.{replicate}
-use Rattle.template.proofs.MemberPlaces.{stopped-on}
-use Rattle.template.proofs.Groups.{group-counts}
+use Rattle.items.proofs.MemberPlaces.{stopped-on}
+use Rattle.items.proofs.Groups.{group-counts}
 use Rattle.template.proofs.Bodies.{group-outlined}
 use borrow.Author.Needs.{needs}
 use Rattle.template.proofs.body.scan_group.Statement.{statement}
 use Rattle.template.proofs.body.scan_group.Tie as tie
 use Rattle.template.proofs.body.scan_group.Reads as reads
 use Rattle.template.proofs.body.scan_group.Lts as lts
-use Rattle.template.proofs.item.no_block.Reads as no-block-reads
+use Rattle.items.proofs.item.no_block.Reads as no-block-reads
 use Rattle.template.proofs.body.no_outline.Reads as no-outline-reads
-use Rattle.template.proofs.group.scan_members.Reads as scan-members-reads
+use Rattle.items.proofs.group.scan_members.Reads as scan-members-reads
 
 scan-members-requires : tie.Need-scan-members-requires
 scan-members-requires c κs = search needs

@@ -4,15 +4,15 @@ use mathlib.Core.Path.{ap}
 use Prim.Native.Nat.{_-_}
 use native.Mathlib.Omega.{arith}
 use lib.ListN.{replicate}
-use Rattle.template.proofs.MemberPlaces.{noted-stopped}
-use Rattle.template.proofs.Items.{ItemsGoing, items-start, items-stop, items-more, items-end}
+use Rattle.items.proofs.MemberPlaces.{noted-stopped}
+use Rattle.template.proofs.RecordItems.{ItemsGoing, items-start, items-stop, items-more, items-end}
 use Rattle.template.proofs.body.scan_items.Statement.{statement}
 use Rattle.template.proofs.body.scan_items.Tie as tie
 use Rattle.template.proofs.body.scan_items.Reads as reads
 use Rattle.template.proofs.body.scan_items.Lts as lts
-use Rattle.template.proofs.item.no_block.Reads as no-block-reads
+use Rattle.items.proofs.item.no_block.Reads as no-block-reads
 use Rattle.template.proofs.body.no_outline.Reads as no-outline-reads
-use Rattle.template.proofs.item.scan_item.Reads as scan-item-reads
+use Rattle.items.proofs.item.scan_item.Reads as scan-item-reads
 
 abbrev Inv-loop : tie.InvT-loop
 Inv-loop t at n low high places₀ blocks₀ p₀ m₀ k₀ places blocks p m k = ItemsGoing t at n places₀ places blocks p m k

@@ -1,0 +1,167 @@
+-- Every refusal row of document 01 and every open point about reading, as rows computed on the definitions; and elements that match and that do not.
+-- Assumes nothing.
+-- Row        == a number and the bytes for which it is given; 0: accepted
+-- templates, elements == the rows of whole templates, and of element templates by themselves
+use mathlib.Core.Path.{_≡_, refl}
+use mathlib.Core.List.{List, [], _∷_, _++_}
+use mathlib.Core.Bool.{Bool, true, false, _&&_}
+use Prim.Native.Nat.{ℕ, zero, suc}
+use lib.Dec.{eqb}
+use lib.IntN.{pos}
+use Rattle.integers.specs.Integer.{signed, intAt}
+use Rattle.grammar.specs.Element.{Elem, leaf, oneOf, noneOf, none, more}
+use Rattle.grammar.specs.Template.{membersOfGroup, membersOfItem}
+use Rattle.grammar.specs.Record.{countFault, boundsFault, groupHead, head}
+use Rattle.grammar.specs.Leaf.{Leaf, singleHead, rangeHead, leafHead, single, range}
+use Rattle.grammar.specs.Read.{verdict, ended, mapRead}
+use Rattle.grammar.specs.Reading.{uncounted, putFirst, thenMore, many, closed, tooDeep, opened, elem, readElement}
+use Rattle.grammar.specs.Whole.{starHere, numbered, putMember, thenMembers, thenStar, putItem, thenItems, clashes, member, members, permutationHere, item, items, contents, bodyHere, templateHere, readTemplate}
+use Rattle.grammar.specs.Matches.{matchesBy, leafMatches, matches}
+
+data Row : Type 0 where
+  row : ℕ → List ℕ → Row
+
+repeat : ℕ → List ℕ → List ℕ → List ℕ
+repeat zero bs s = s
+repeat (suc n) bs s = bs ++ repeat n bs s
+
+right : (List ℕ → ℕ) → List Row → Bool
+right number [] = true
+right number (row n s ∷ rows) = eqb (number s) n && right number rows
+
+templates : List Row
+templates =
+    row 0 (0x10 ∷ 0x00 ∷ []) ∷  -- {}
+    row 0 (0x10 ∷ 0x02 ∷ (0x01 ∷ 0x01 ∷ 0x00 ∷ 0x00 ∷ 0x00 ∷ (0x03 ∷ []))) ∷
+    row 3 ([]) ∷  -- empty template
+    row 3 (0x10 ∷ []) ∷  -- short body
+    row 3 (0x10 ∷ 0x01 ∷ []) ∷
+    row 3 (0x10 ∷ 0x01 ∷ 0x01 ∷ 0x00 ∷ 0x00 ∷ 0x00 ∷ []) ∷
+    row 3 (0x30 ∷ []) ∷
+    row 3 (0x30 ∷ 0x00 ∷ []) ∷
+    row 3 (0x30 ∷ 0x00 ∷ 0x07 ∷ []) ∷
+    row 3 (0x30 ∷ 0x21 ∷ []) ∷  -- a short body before its ranges
+    row 3 (0x10 ∷ 0x01 ∷ 0x20 ∷ 0x21 ∷ []) ∷
+    row 4 (0x06 ∷ []) ∷  -- kind
+    row 4 (0x30 ∷ 0x00 ∷ 0xff ∷ 0x30 ∷ 0x00 ∷ 0xff ∷ 0x10 ∷ 0x00 ∷ []) ∷  -- a second 30
+    row 4 (0x01 ∷ []) ∷
+    row 4 (0x10 ∷ 0x01 ∷ 0x06 ∷ []) ∷
+    row 4 (0x11 ∷ 0x01 ∷ 0x21 ∷ []) ∷  -- not allowed before its body
+    row 4 (0x12 ∷ 0x01 ∷ 0x20 ∷ []) ∷
+    row 4 (0x13 ∷ 0x01 ∷ 0x20 ∷ []) ∷
+    row 4 (0x10 ∷ 0x01 ∷ 0x21 ∷ 0x01 ∷ 0x21 ∷ []) ∷
+    row 4 (0x10 ∷ 0x01 ∷ 0x10 ∷ []) ∷
+    row 5 (0x10 ∷ 0x21 ∷ []) ∷
+    row 5 (0x11 ∷ 0x21 ∷ []) ∷
+    row 5 (0x12 ∷ 0x00 ∷ []) ∷
+    row 5 (0x13 ∷ 0x00 ∷ []) ∷
+    row 5 (0x12 ∷ 0x21 ∷ []) ∷
+    row 5 (0x10 ∷ 0x01 ∷ 0x21 ∷ 0x00 ∷ []) ∷
+    row 5 (0x10 ∷ 0x01 ∷ 0x21 ∷ 0x21 ∷ []) ∷
+    row 5 (0x10 ∷ 0x01 ∷ 0x04 ∷ 0x00 ∷ []) ∷
+    row 5 (0x10 ∷ 0x01 ∷ 0x04 ∷ 0x41 ∷ []) ∷  -- n = 65 is 5, not 8
+    row 5 (0x10 ∷ 0x01 ∷ 0x05 ∷ 0x41 ∷ []) ∷
+    row 6 (0x30 ∷ 0x21 ∷ 0x00 ∷ 0x10 ∷ []) ∷
+    row 6 (0x30 ∷ 0x00 ∷ 0x21 ∷ []) ∷
+    row 6 (0x30 ∷ 0x00 ∷ 0xfe ∷ []) ∷
+    row 6 (0x30 ∷ 0x05 ∷ 0x04 ∷ []) ∷
+    row 6 (0x30 ∷ 0xff ∷ 0xff ∷ []) ∷  -- min 255
+    row 6 (0x10 ∷ 0x01 ∷ 0x20 ∷ 0x05 ∷ 0x04 ∷ []) ∷
+    row 6 (0x10 ∷ 0x01 ∷ 0x20 ∷ 0x00 ∷ 0x21 ∷ []) ∷
+    row 6 (0x10 ∷ 0x01 ∷ 0x02 ∷ (0x02 ∷ 0x00 ∷ 0x00 ∷ 0x00 ∷ 0x01 ∷ 0x00 ∷ 0x00 ∷ 0x00 ∷ [])) ∷
+    row 0 (0x30 ∷ 0x00 ∷ 0xff ∷ 0x10 ∷ 0x00 ∷ []) ∷
+    row 0 (0x30 ∷ 0x20 ∷ 0x20 ∷ 0x11 ∷ (0x00 ∷ [])) ∷
+    row 9 (0x30 ∷ 0x02 ∷ 0x07 ∷ 0x12 ∷ 0x03 ∷ []) ∷  -- row 9 at the 12 or 13 record
+    row 9 (0x30 ∷ 0x02 ∷ 0x07 ∷ 0x12 ∷ 0x03 ∷ 0x06 ∷ []) ∷
+    row 5 (0x30 ∷ 0x00 ∷ 0xff ∷ 0x12 ∷ 0x21 ∷ []) ∷
+    row 9 (0x30 ∷ 0x00 ∷ 0x04 ∷ 0x13 ∷ 0x03 ∷ []) ∷
+    row 9 (0x30 ∷ 0x00 ∷ 0xff ∷ 0x12 ∷ 0x01 ∷ []) ∷
+    row 9 (0x30 ∷ 0x00 ∷ 0xff ∷ 0x13 ∷ 0x01 ∷ []) ∷
+    row 0 (0x30 ∷ 0x00 ∷ 0x03 ∷ 0x13 ∷ 0x03 ∷ (repeat 3 (0x03 ∷ []) ([]))) ∷
+    row 0 (0x30 ∷ 0x03 ∷ 0x07 ∷ 0x12 ∷ 0x03 ∷ (repeat 3 (0x03 ∷ []) ([]))) ∷
+    row 5 (0x10 ∷ 0x02 ∷ 0x21 ∷ 0x20 ∷ (repeat 32 (0x03 ∷ []) (0x04 ∷ 0x00 ∷ []))) ∷  -- a 33rd member
+    row 8 (0x10 ∷ 0x02 ∷ 0x21 ∷ 0x20 ∷ (repeat 32 (0x03 ∷ []) (0x04 ∷ 0x01 ∷ []))) ∷
+    row 6 (0x10 ∷ 0x02 ∷ 0x21 ∷ 0x20 ∷ (repeat 32 (0x03 ∷ []) (0x02 ∷ 0x02 ∷ 0x00 ∷ 0x00 ∷ 0x00 ∷ 0x01 ∷ 0x00 ∷ 0x00 ∷ 0x00 ∷ []))) ∷
+    row 3 (0x10 ∷ 0x02 ∷ 0x21 ∷ 0x20 ∷ (repeat 32 (0x03 ∷ []) (0x21 ∷ 0x03 ∷ []))) ∷
+    row 0 (0x10 ∷ 0x02 ∷ 0x21 ∷ 0x20 ∷ (repeat 32 (0x03 ∷ []) (0x20 ∷ 0x00 ∷ 0xff ∷ []))) ∷
+    row 8 (0x10 ∷ 0x02 ∷ 0x21 ∷ 0x20 ∷ (repeat 32 (0x03 ∷ []) (0x03 ∷ []))) ∷
+    row 10 (0x11 ∷ 0x20 ∷ (repeat 32 (0x03 ∷ []) (0x03 ∷ []))) ∷
+    row 0 (0x11 ∷ 0x20 ∷ (repeat 32 (0x03 ∷ []) ([]))) ∷
+    row 0 (0x12 ∷ 0x20 ∷ (repeat 32 (0x03 ∷ []) ([]))) ∷
+    row 0 (0x10 ∷ 0x02 ∷ (repeat 2 (0x03 ∷ []) ([]))) ∷
+    row 0 (0x10 ∷ 0x02 ∷ (0x04 ∷ 0x40 ∷ (repeat 64 (0x03 ∷ []) (0x04 ∷ 0x40 ∷ (repeat 64 (0x03 ∷ []) ([])))))) ∷  -- two items of 64 leaves each
+    row 8 (0x10 ∷ 0x01 ∷ (0x04 ∷ 0x02 ∷ 0x04 ∷ 0x40 ∷ (repeat 64 (0x03 ∷ []) (0x03 ∷ [])))) ∷  -- a 65th leaf
+    row 3 (0x10 ∷ 0x01 ∷ (0x04 ∷ 0x02 ∷ 0x04 ∷ 0x40 ∷ (repeat 64 (0x03 ∷ []) (0x04 ∷ 0x01 ∷ [])))) ∷
+    row 6 (0x10 ∷ 0x01 ∷ (0x04 ∷ 0x02 ∷ 0x04 ∷ 0x40 ∷ (repeat 64 (0x03 ∷ []) (0x02 ∷ 0x02 ∷ 0x00 ∷ 0x00 ∷ 0x00 ∷ 0x01 ∷ 0x00 ∷ 0x00 ∷ 0x00 ∷ [])))) ∷
+    row 0 (0x10 ∷ 0x01 ∷ 0x21 ∷ 0x01 ∷ 0x20 ∷ 0x01 ∷ 0x02 ∷ []) ∷  -- a permutation whose only item is a 20
+    row 0 (0x11 ∷ 0x00 ∷ []) ∷
+    row 6 (0x11 ∷ 0x02 ∷ 0x20 ∷ 0x00 ∷ 0xff ∷ 0x20 ∷ 0x01 ∷ 0x00 ∷ []) ∷  -- a second 20
+    row 8 (0x11 ∷ 0x03 ∷ 0x20 ∷ 0x00 ∷ 0xff ∷ 0x20 ∷ 0x00 ∷ 0xff ∷ 0x06 ∷ []) ∷
+    row 0 (0x10 ∷ 0x02 ∷ 0x21 ∷ 0x01 ∷ 0x20 ∷ 0x00 ∷ 0xff ∷ 0x21 ∷ 0x01 ∷ 0x20 ∷ 0x00 ∷ 0xff ∷ []) ∷
+    row 8 (0x10 ∷ 0x01 ∷ 0x21 ∷ 0x02 ∷ 0x20 ∷ 0x00 ∷ 0xff ∷ 0x20 ∷ 0x00 ∷ 0xff ∷ []) ∷
+    row 0 (0x10 ∷ 0x02 ∷ 0x20 ∷ 0x00 ∷ 0xff ∷ 0x20 ∷ 0x00 ∷ 0xff ∷ []) ∷
+    row 10 (0x10 ∷ 0x00 ∷ 0x03 ∷ []) ∷  -- bytes left after the template
+    row 10 (0x10 ∷ 0x00 ∷ 0x10 ∷ 0x00 ∷ []) ∷
+    row 7 (0x10 ∷ 0x01 ∷ (repeat 8 (0x04 ∷ 0x01 ∷ []) (0x03 ∷ []))) ∷  -- depth 9
+    row 0 (0x10 ∷ 0x01 ∷ (repeat 7 (0x04 ∷ 0x01 ∷ []) (0x03 ∷ []))) ∷
+    row 0 (0x10 ∷ 0x01 ∷ 0x21 ∷ 0x01 ∷ (repeat 7 (0x04 ∷ 0x01 ∷ []) (0x03 ∷ []))) ∷  -- a permutation adds no depth
+    row 7 (0x10 ∷ 0x01 ∷ 0x21 ∷ 0x01 ∷ (repeat 8 (0x04 ∷ 0x01 ∷ []) (0x03 ∷ []))) ∷
+    row 2 (repeat 4097 (0x03 ∷ []) ([])) ∷  -- over 4,096 bytes
+    []
+
+elements : List Row
+elements =
+    row 3 ([]) ∷
+    row 0 (0x03 ∷ []) ∷
+    row 4 (0x06 ∷ []) ∷
+    row 4 (0x20 ∷ []) ∷
+    row 3 (0x01 ∷ 0x00 ∷ 0x00 ∷ 0x00 ∷ []) ∷
+    row 3 (0x02 ∷ 0x00 ∷ 0x00 ∷ 0x00 ∷ 0x00 ∷ 0x00 ∷ 0x00 ∷ 0x00 ∷ []) ∷
+    row 5 (0x04 ∷ 0x00 ∷ []) ∷
+    row 5 (0x05 ∷ 0x41 ∷ []) ∷
+    row 6 (0x02 ∷ 0x02 ∷ 0x00 ∷ 0x00 ∷ 0x00 ∷ 0x01 ∷ 0x00 ∷ 0x00 ∷ 0x00 ∷ []) ∷
+    row 0 (0x02 ∷ 0x01 ∷ 0x00 ∷ 0x00 ∷ 0x00 ∷ 0x01 ∷ 0x00 ∷ 0x00 ∷ 0x00 ∷ []) ∷
+    row 10 (0x03 ∷ 0x03 ∷ []) ∷
+    row 3 (repeat 8 (0x04 ∷ 0x01 ∷ []) ([])) ∷  -- depth
+    row 4 (repeat 8 (0x04 ∷ 0x01 ∷ []) (0x20 ∷ [])) ∷
+    row 3 (repeat 8 (0x04 ∷ 0x01 ∷ []) (0x01 ∷ 0x00 ∷ [])) ∷
+    row 5 (repeat 8 (0x04 ∷ 0x01 ∷ []) (0x04 ∷ 0x00 ∷ [])) ∷
+    row 7 (repeat 8 (0x04 ∷ 0x01 ∷ []) (0x03 ∷ [])) ∷
+    row 7 (repeat 8 (0x04 ∷ 0x01 ∷ []) (0x04 ∷ 0x01 ∷ [])) ∷
+    row 6 (repeat 8 (0x04 ∷ 0x01 ∷ []) (0x02 ∷ 0x02 ∷ 0x00 ∷ 0x00 ∷ 0x00 ∷ 0x01 ∷ 0x00 ∷ 0x00 ∷ 0x00 ∷ [])) ∷
+    row 0 (repeat 7 (0x04 ∷ 0x01 ∷ []) (0x03 ∷ [])) ∷
+    row 8 (0x04 ∷ 0x02 ∷ 0x04 ∷ 0x40 ∷ (repeat 64 (0x03 ∷ []) (0x03 ∷ []))) ∷
+    row 3 (0x04 ∷ 0x02 ∷ 0x04 ∷ 0x40 ∷ (repeat 64 (0x03 ∷ []) (0x04 ∷ 0x01 ∷ []))) ∷
+    row 0 (0x04 ∷ 0x40 ∷ (repeat 64 (0x03 ∷ []) ([]))) ∷
+    row 0 (0x04 ∷ 0x02 ∷ 0x04 ∷ 0x20 ∷ (repeat 32 (0x03 ∷ []) (0x04 ∷ 0x20 ∷ (repeat 32 (0x03 ∷ []) ([]))))) ∷  -- 32 + 32 leaves
+    row 8 (0x04 ∷ 0x02 ∷ 0x04 ∷ 0x20 ∷ (repeat 32 (0x03 ∷ []) (0x04 ∷ 0x21 ∷ (repeat 33 (0x03 ∷ []) ([]))))) ∷  -- 32 + 33 leaves
+    row 2 (repeat 4097 (0x03 ∷ []) ([])) ∷
+    []
+
+templates-right : right (λ s. verdict (readTemplate leafHead s)) templates ≡ true
+unfolding right repeat templates signed intAt membersOfGroup membersOfItem countFault boundsFault groupHead head singleHead rangeHead leafHead verdict ended uncounted putFirst thenMore many closed tooDeep opened elem mapRead starHere numbered putMember thenMembers thenStar putItem thenItems clashes member members permutationHere item items contents bodyHere templateHere readTemplate
+templates-right = refl
+
+elements-right : right (λ s. verdict (readElement leafHead s)) elements ≡ true
+unfolding right repeat elements signed intAt countFault groupHead head singleHead rangeHead leafHead verdict ended uncounted putFirst thenMore many closed tooDeep opened elem readElement
+elements-right = refl
+
+-- ---- when an element matches
+five : Elem Leaf
+five = leaf (single (pos 5))
+
+in-a-list : matches (oneOf (more (leaf (range (pos 1) (pos 3))) (more five none))) (pos 5) ≡ true
+unfolding five matchesBy leafMatches
+in-a-list = refl
+
+not-five : matches (noneOf (more five none)) (pos 5) ≡ false
+unfolding five matchesBy leafMatches
+not-five = refl
+
+list-in-a-complement : matches (noneOf (more (oneOf (more five none)) none)) (pos 5) ≡ false
+unfolding five matchesBy leafMatches
+list-in-a-complement = refl
+
+ends-included : (matches (leaf (range (pos 1) (pos 3))) (pos 1) && matches (leaf (range (pos 1) (pos 3))) (pos 3)) ≡ true
+unfolding matchesBy leafMatches
+ends-included = refl

@@ -1,0 +1,234 @@
+-- Which numbers a refusal can have: what holds of the table's rows holds of every refusal. Assumes nothing.
+-- Row Q         <-> Q holds of the numbers 3 to 8, those of one record of an element template
+-- Refusals Q o  <-> Q holds of o's number, where o is a refusal
+-- elem-numbers, whole-numbers == so it is of element templates, and, where Q holds of 9 too, of templates
+-- read-cases    == a whole input is refused by a number above 0, or read to its end
+use mathlib.Core.Path.{_≡_, refl}
+use mathlib.Core.Bool.{Bool, true, false, _&&_, cond}
+use mathlib.Core.List.{List, [], _∷_}
+use Prim.Native.Nat.{ℕ, zero, suc, _+_, _<_}
+use native.Mathlib.Omega.{arith}
+use lib.Dec.{ltb, eqb}
+use lib.Signed.{ltZ}
+use lib.ListN.{length, getD, drop}
+use Rattle.integers.specs.Integer.{intAt}
+use Rattle.grammar.specs.Element.{Elem, Elems, leaf}
+use Rattle.grammar.specs.Template.{Star, noStar, star, Group, grouped, Item, one, permutation, recordOf, setOf, superset, subset, Length, anyLength, between, Template, template, membersOfGroup, membersOfItem}
+use Rattle.grammar.specs.Record.{Head, fault, leafHere, group, kindOf, outside, badBounds, countFault, boundsFault, faultOr, groupHead, head}
+use Rattle.grammar.specs.Leaf.{Leaf, single, range, any, singleHead, rangeHead, leafHead}
+use Rattle.grammar.specs.Read.{Read, refuse, got, orRefuse, refuseOr, ended, mapRead}
+use Rattle.grammar.specs.Reading.{Counted, counted, uncounted, putFirst, thenMore, many, closed, tooDeep, opened, elem, outermost}
+use Rattle.grammar.specs.Whole.{asSpares, hasStar, starHere, fewest, clashes, numbered, putMember, thenMembers, thenStar, putItem, thenItems, member, members, permutationHere, item, items, contents, bodyHere, templateHere, readTemplate}
+
+pub record Row (Q : ℕ → Type 0) : Type 0 where
+  pub r3 : Q 3
+  pub r4 : Q 4
+  pub r5 : Q 5
+  pub r6 : Q 6
+  pub r7 : Q 7
+  pub r8 : Q 8
+
+abbrev pub Refusals : {A : Type 0} → (ℕ → Type 0) → Read A → Type 0
+Refusals Q (refuse r) = Q r
+Refusals Q (got a s) = Unit {0}
+
+abbrev Faults : {L : Type 0} → (ℕ → Type 0) → Head L → Type 0
+Faults Q (fault r) = Q r
+Faults Q (leafHere l s) = Unit {0}
+Faults Q (group c n s) = Unit {0}
+
+module _ (Q : ℕ → Type 0) where
+  fault-either : (b : Bool) (g h : Head Leaf) → Faults Q g → Faults Q h → Faults Q (cond b g h)
+  fault-either true g h p q = p
+  fault-either false g h p q = q
+
+  pub read-either : {A : Type 0} (b : Bool) (o u : Read A) → Refusals Q o → Refusals Q u → Refusals Q (cond b o u)
+  read-either true o u p q = p
+  read-either false o u p q = q
+
+  mapped : {A B : Type 0} (f : A → B) (o : Read A) → Refusals Q o → Refusals Q (mapRead f o)
+  unfolding mapRead
+  mapped f (refuse r) p = p
+  mapped f (got a s) p = tt
+
+  uncounted-numbers : {A : Type 0} (o : Read (Counted A)) → Refusals Q o → Refusals Q (uncounted o)
+  unfolding uncounted
+  uncounted-numbers (refuse r) p = p
+  uncounted-numbers (got (counted a k) s) p = tt
+
+  module _ (row : Row Q) where
+    count-numbers : (lo hi : ℕ) (s : List ℕ) {A : Type 0} (o : Read A) → Refusals Q o → Refusals Q (refuseOr (countFault lo hi s) o)
+    unfolding countFault
+    count-numbers lo hi s o p = go (ltb (length s) 2) (outside lo hi (getD s 1 0))
+      where
+        go : (a b : Bool) → Refusals Q (refuseOr (cond a 3 (cond b 5 0)) o)
+        go true b = row .r3
+        go false true = row .r5
+        go false false = p
+
+    bounds-numbers : (s : List ℕ) {A : Type 0} (o : Read A) → Refusals Q o → Refusals Q (refuseOr (boundsFault s) o)
+    unfolding boundsFault
+    bounds-numbers s o p = go (ltb (length s) 3) (badBounds (getD s 1 0) (getD s 2 0))
+      where
+        go : (a b : Bool) → Refusals Q (refuseOr (cond a 3 (cond b 6 0)) o)
+        go true b = row .r3
+        go false true = row .r6
+        go false false = p
+
+    -- ---- one record
+
+    group-numbers : (c : Bool) (s : List ℕ) → Faults {L = Leaf} Q (groupHead c s)
+    unfolding groupHead countFault
+    group-numbers c s = go (ltb (length s) 2) (outside 1 64 (getD s 1 0))
+      where
+        go : (a b : Bool) → Faults {L = Leaf} Q (faultOr (cond a 3 (cond b 5 0)) (group c (getD s 1 0) (drop 2 s)))
+        go true b = row .r3
+        go false true = row .r5
+        go false false = tt
+
+    leaf-numbers : (s : List ℕ) → Faults Q (leafHead s)
+    unfolding leafHead singleHead rangeHead
+    leaf-numbers s =
+        fault-either (eqb (kindOf s) 1) _ _ (fault-either (ltb (length s) 5) (fault 3) (leafHere (single (intAt s 1)) (drop 5 s)) (row .r3) tt)
+        (fault-either (eqb (kindOf s) 2) _ _
+        (fault-either (ltb (length s) 9) (fault 3) _ (row .r3) (fault-either (ltZ (intAt s 5) (intAt s 1)) (fault 6) (leafHere (range (intAt s 1) (intAt s 5)) (drop 9 s)) (row .r6) tt))
+        (fault-either (eqb (kindOf s) 3) (leafHere any (drop 1 s)) (fault 4) tt (row .r4)))
+
+    head-numbers : (s : List ℕ) → Faults Q (head leafHead s)
+    unfolding head
+    head-numbers s =
+        fault-either (eqb (length s) 0) (fault 3) _ (row .r3)
+        (fault-either (eqb (kindOf s) 4) (groupHead false s) _ (group-numbers false s)
+        (fault-either (eqb (kindOf s) 5) (groupHead true s) (leafHead s) (group-numbers true s) (leaf-numbers s)))
+
+    -- ---- element templates
+
+    put-numbers : (e : Elem Leaf) (o : Read (Counted (Elems Leaf))) → Refusals Q o → Refusals Q (putFirst e o)
+    unfolding putFirst
+    put-numbers e (refuse r) n = n
+    put-numbers e (got (counted es k) s) n = tt
+
+    many-numbers : (p : ℕ → List ℕ → Read (Counted (Elem Leaf))) → ((k : ℕ) (s : List ℕ) → Refusals Q (p k s)) → (n k : ℕ) (s : List ℕ) → Refusals Q (many p n k s)
+    unfolding many thenMore
+    many-numbers p h zero k s = tt
+    many-numbers p h (suc n) k s = go (p k s) (h k s) (λ j r. many-numbers p h n j r)
+      where
+        go : (o : Read (Counted (Elem Leaf))) → Refusals Q o → ((j : ℕ) (r : List ℕ) → Refusals Q (many p n j r)) → Refusals Q (thenMore o (many p n))
+        go (refuse r) x y = x
+        go (got (counted e j) r) x y = put-numbers e (many p n j r) (y j r)
+
+    pub elem-numbers : (left k : ℕ) (s : List ℕ) → Refusals Q (elem leafHead left k s)
+    unfolding elem tooDeep opened closed
+    elem-numbers zero k s = go (head leafHead s) (head-numbers s)
+      where
+        go : (h : Head Leaf) → Faults Q h → Refusals Q (tooDeep h)
+        go (fault r) x = x
+        go (leafHere l r) x = row .r7
+        go (group c n r) x = row .r7
+    elem-numbers (suc left) k s = go (head leafHead s) (head-numbers s) (many-numbers (elem leafHead left) (λ j r. elem-numbers left j r))
+      where
+        close : (c : Bool) (o : Read (Counted (Elems Leaf))) → Refusals Q o → Refusals Q (closed c o)
+        close c (refuse r) x = x
+        close false (got (counted es j) r) x = tt
+        close true (got (counted es j) r) x = tt
+
+        go : (h : Head Leaf) → Faults Q h → ((n j : ℕ) (r : List ℕ) → Refusals Q (many (elem leafHead left) n j r)) → Refusals Q (opened (elem leafHead left) k h)
+        go (fault r) x y = x
+        go (leafHere l r) x y = read-either (ltb 63 k) (refuse 8) (got (counted (leaf l) (k + 1)) r) (row .r8) tt
+        go (group c n r) x y = close c (many (elem leafHead left) n k r) (y n k r)
+
+    -- ---- templates
+
+    star-numbers : (seen : Bool) (s : List ℕ) → Refusals Q (starHere seen s)
+    unfolding starHere
+    star-numbers seen s = bounds-numbers s _ (read-either seen (refuse 8) (got (star (getD s 1 0) (getD s 2 0)) (drop 3 s)) (row .r8) tt)
+
+    member-numbers : (m : ℕ) (s : List ℕ) → Refusals Q (member leafHead m s)
+    unfolding member numbered
+    member-numbers m s = go (head leafHead s) (head-numbers s)
+      where
+        inner : Refusals Q (uncounted (outermost leafHead s))
+        inner = uncounted-numbers (outermost leafHead s) (elem-numbers 8 0 s)
+
+        go : (h : Head Leaf) → Faults Q h → Refusals Q (numbered m h (uncounted (outermost leafHead s)))
+        go (fault r) x = x
+        go (leafHere l r) x = read-either (ltb 31 m) (refuse 8) _ (row .r8) inner
+        go (group c n r) x = read-either (ltb 31 m) (refuse 8) _ (row .r8) inner
+
+    members-numbers : (stars : Bool) (n m : ℕ) (st : Star) (s : List ℕ) → Refusals Q (members leafHead stars n m st s)
+    unfolding members thenStar thenMembers putMember
+    members-numbers stars zero m st s = tt
+    members-numbers stars (suc n) m st s =
+        read-either (stars && eqb (kindOf s) 32) _ _ (by-star (starHere (hasStar st) s) (star-numbers (hasStar st) s) (λ st′ s′. members-numbers stars n m st′ s′)) (by-member (member leafHead m s) (member-numbers m s) (λ s′. members-numbers stars n (m + 1) st s′))
+      where
+        put : (e : Elem Leaf) (o : Read (Group Leaf)) → Refusals Q o → Refusals Q (putMember e o)
+        put e (refuse r) x = x
+        put e (got (grouped es st′) s′) x = tt
+
+        by-star : (o : Read Star) → Refusals Q o → ((st′ : Star) (s′ : List ℕ) → Refusals Q (members leafHead stars n m st′ s′)) → Refusals Q (thenStar o (members leafHead stars n m))
+        by-star (refuse r) x h = x
+        by-star (got st′ s′) x h = h st′ s′
+
+        by-member : (o : Read (Elem Leaf)) → Refusals Q o → ((s′ : List ℕ) → Refusals Q (members leafHead stars n (m + 1) st s′)) → Refusals Q (thenMembers o (members leafHead stars n (m + 1) st))
+        by-member (refuse r) x h = x
+        by-member (got e s′) x h = put e (members leafHead stars n (m + 1) st s′) (h s′)
+
+    item-numbers : (m : ℕ) (s : List ℕ) → Refusals Q (item leafHead m s)
+    unfolding item permutationHere
+    item-numbers m s =
+        read-either (eqb (kindOf s) 32) _ _ (mapped asSpares _ (star-numbers false s))
+        (read-either (eqb (kindOf s) 33) _ _ (count-numbers 1 32 s _ (mapped permutation _ (members-numbers true (getD s 1 0) m noStar (drop 2 s))))
+        (mapped one _ (member-numbers m s)))
+
+    items-numbers : (n m : ℕ) (s : List ℕ) → Refusals Q (items leafHead n m s)
+    unfolding items thenItems putItem
+    items-numbers zero m s = tt
+    items-numbers (suc n) m s = by-item (item leafHead m s) (item-numbers m s) (λ k s′. items-numbers n k s′)
+      where
+        put : (i : Item Leaf) (o : Read (List (Item Leaf))) → Refusals Q o → Refusals Q (putItem i o)
+        put i (refuse r) x = x
+        put i (got is t) x = tt
+
+        by-item : (o : Read (Item Leaf)) → Refusals Q o → ((k : ℕ) (s′ : List ℕ) → Refusals Q (items leafHead n k s′)) → Refusals Q (thenItems m o (items leafHead n))
+        by-item (refuse r) x h = x
+        by-item (got i s′) x h = put i (items leafHead n (m + length (membersOfItem i)) s′) (h (m + length (membersOfItem i)) s′)
+
+    contents-numbers : (kind n : ℕ) (s : List ℕ) → Refusals Q (contents leafHead kind n s)
+    unfolding contents
+    contents-numbers kind n s =
+        read-either (eqb kind 16) _ _ (mapped recordOf _ (items-numbers n 0 s))
+        (read-either (eqb kind 17) _ _ (mapped setOf _ (members-numbers true n 0 noStar s))
+        (read-either (eqb kind 18) _ _ (mapped (λ g. superset (membersOfGroup g)) _ (members-numbers false n 0 noStar s)) (mapped (λ g. subset (membersOfGroup g)) _ (members-numbers false n 0 noStar s))))
+
+    module _ (r9 : Q 9) where
+      body-numbers : (a : Length) (s : List ℕ) → Refusals Q (bodyHere leafHead a s)
+      unfolding bodyHere
+      body-numbers a s =
+          read-either (eqb (length s) 0) (refuse 3) _ (row .r3)
+          (read-either (outside 16 19 (kindOf s)) (refuse 4) _ (row .r4)
+          (count-numbers (fewest (kindOf s)) 32 s _
+          (read-either (clashes a (kindOf s) (getD s 1 0)) (refuse 9) _ r9
+          (mapped (template a) _ (contents-numbers (kindOf s) (getD s 1 0) (drop 2 s))))))
+
+      whole-numbers : (s : List ℕ) → Refusals Q (templateHere leafHead s)
+      unfolding templateHere
+      whole-numbers s = read-either (eqb (kindOf s) 48) _ _ (bounds-numbers s _ (body-numbers (between (getD s 1 0) (getD s 2 0)) (drop 3 s))) (body-numbers anyLength s)
+
+-- ---- a whole input
+
+pub data Cases {A : Type 0} (o : Read A) : Type 0 where
+  isRefused : (r : ℕ) → o ≡ refuse r → 0 < r → Cases o
+  isRead : (a : A) → o ≡ got a [] → Cases o
+
+above-zero : Row (λ r. 0 < r)
+above-zero = record { r3 = omega arith; r4 = omega arith; r5 = omega arith; r6 = omega arith; r7 = omega arith; r8 = omega arith }
+
+pub read-cases : (s : List ℕ) → Cases (readTemplate leafHead s)
+unfolding readTemplate ended
+read-cases s = go (ltb 4096 (length s)) (templateHere leafHead s) (whole-numbers (λ r. 0 < r) above-zero (omega arith) s)
+  where
+    go : (b : Bool) (o : Read (Template Leaf)) → Refusals (λ r. 0 < r) o → Cases (orRefuse b 2 (ended o))
+    go true o h = isRefused 2 refl (omega arith)
+    go false (refuse r) h = isRefused r refl h
+    go false (got t []) h = isRead t refl
+    go false (got t (x ∷ r)) h = isRefused 10 refl (omega arith)

@@ -1,0 +1,37 @@
+-- The leaves of the integer family: "A leaf is a record 01, 02 or 03".
+-- Leaf == 01 the integer itself, 02 a range with both its bounds, 03 any value
+-- singleHead s == the 01 at the front of s, or its fault 3; rangeHead s == the 02 there, or its fault 3 or 6
+-- leafHead s == the leaf at the front of s, or its own fault: 4 for any other kind, 3 for a short body, 6 for lower above upper
+-- Assumes nothing: these are definitions.
+use Prim.Native.Nat.{ℕ}
+use mathlib.Core.List.{List}
+use mathlib.Core.Bool.{cond}
+use lib.ListN.{length, drop}
+use lib.Dec.{ltb, eqb}
+use lib.IntN.{ℤ}
+use lib.Signed.{ltZ}
+use Rattle.integers.specs.Integer.{intAt}
+use Rattle.grammar.specs.Record.{Head, fault, leafHere, kindOf}
+
+pub data Leaf : Type 0 where
+  single : ℤ → Leaf
+  range : ℤ → ℤ → Leaf
+  any : Leaf
+
+unfoldable pub singleHead : List ℕ → Head Leaf
+singleHead s =
+    cond (ltb (length s) 5) (fault 3)
+    (leafHere (single (intAt s 1)) (drop 5 s))
+
+unfoldable pub rangeHead : List ℕ → Head Leaf
+rangeHead s =
+    cond (ltb (length s) 9) (fault 3)
+    (cond (ltZ (intAt s 5) (intAt s 1)) (fault 6)
+    (leafHere (range (intAt s 1) (intAt s 5)) (drop 9 s)))
+
+unfoldable pub leafHead : List ℕ → Head Leaf
+leafHead s =
+    cond (eqb (kindOf s) 0x01) (singleHead s)
+    (cond (eqb (kindOf s) 0x02) (rangeHead s)
+    (cond (eqb (kindOf s) 0x03) (leafHere any (drop 1 s))
+    (fault 4)))

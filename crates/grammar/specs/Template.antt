@@ -1,0 +1,57 @@
+-- Templates (document 01, "The records").
+-- Star        == whether there is a 20, and its min and max
+-- Group L     == what stands in a set of or a permutation: its element templates in order, and its 20 if it has one
+-- Item L      == an item of a record of: an element template, a 20, a permutation
+-- Body L      == record of, set of, superset, subset
+-- Length      == the length attribute: none, or its min and max
+-- Template L  == a length attribute or none, and a body
+-- membersOf b == the members of b, in the order of their numbers: those inside permutations in place
+-- membersOfGroup g, membersOfItem i, membersOfItems is == the same of a group, of an item, of several items
+-- Infinity as an upper bound is 255, as in the bytes: no list is that long.
+-- Assumes nothing: these are definitions.
+use Prim.Native.Nat.{ℕ}
+use mathlib.Core.List.{List, [], _∷_, _++_}
+use Rattle.grammar.specs.Element.{Elem}
+
+pub data Star : Type 0 where
+  noStar : Star
+  star : ℕ → ℕ → Star
+
+pub data Group (L : Type 0) : Type 0 where
+  grouped : List (Elem L) → Star → Group L
+
+pub data Item (L : Type 0) : Type 0 where
+  one : Elem L → Item L
+  spares : ℕ → ℕ → Item L
+  permutation : Group L → Item L
+
+pub data Body (L : Type 0) : Type 0 where
+  recordOf : List (Item L) → Body L
+  setOf : Group L → Body L
+  superset : List (Elem L) → Body L
+  subset : List (Elem L) → Body L
+
+pub data Length : Type 0 where
+  anyLength : Length
+  between : ℕ → ℕ → Length
+
+pub data Template (L : Type 0) : Type 0 where
+  template : Length → Body L → Template L
+
+unfoldable pub membersOfGroup : {L : Type 0} → Group L → List (Elem L)
+membersOfGroup (grouped es s) = es
+
+unfoldable pub membersOfItem : {L : Type 0} → Item L → List (Elem L)
+membersOfItem (one e) = e ∷ []
+membersOfItem (spares min max) = []
+membersOfItem (permutation g) = membersOfGroup g
+
+unfoldable pub membersOfItems : {L : Type 0} → List (Item L) → List (Elem L)
+membersOfItems [] = []
+membersOfItems (i ∷ is) = membersOfItem i ++ membersOfItems is
+
+unfoldable pub membersOf : {L : Type 0} → Body L → List (Elem L)
+membersOf (recordOf is) = membersOfItems is
+membersOf (setOf g) = membersOfGroup g
+membersOf (superset es) = es
+membersOf (subset es) = es
