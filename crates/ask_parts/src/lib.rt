@@ -1,0 +1,237 @@
+// The requests of the test program `ask`, read from standard input, and the lines of their answers, written to standard output. The
+// program's header says the format of both.
+use integers::int_at;
+use libc::STDIN_FILENO;
+use libc::STDOUT_FILENO;
+ghost use Prim.Native.Nat.{_≤_};
+
+// The first byte of a request says its kind.
+pub const MATCH: usize = 1;
+
+pub const JUDGE: usize = 2;
+
+pub const NORMALISE: usize = 3;
+
+pub const WHY_NOT: usize = 7;
+
+// The kind of a bad request.
+const BAD: usize = 0;
+
+// Stands for a byte that is missing; a count with such a byte is over every bound. The kind where the input ends.
+const MISSING: usize = 65536;
+
+// The bounds of the counts.
+const TEMPLATE_MOST: usize = 5000;
+
+const LIST_MOST: usize = 64;
+
+// Of the bytes of a room, and of a witness.
+const ROOM_MOST: usize = 1024;
+
+// What stands at the front of the three arrays that are lent: template bytes, integers, and the bytes of the room or the witness.
+pub struct Request {
+    pub kind: usize,
+    pub template: usize,
+    pub list: usize,
+    pub room: usize,
+}
+
+// What an entry point gives back: a number, and the length of a normal form or the mask of a group.
+pub struct Answer {
+    pub number: u8,
+    pub length: usize,
+    pub group: u32,
+}
+
+fn wide(byte: u8) -> usize
+    ensures { λ r. ⌜ r ≤ 65536 ⌝ }
+{
+    byte as usize
+}
+
+// The next byte.
+fn next_byte() -> usize
+    ensures { λ r. ⌜ r ≤ 65536 ⌝ }
+{
+    let mut one = [0u8; 1];
+    let got = io::read_full(STDIN_FILENO, &mut one);
+    if got == 0 {
+        return MISSING;
+    }
+    wide(one[0])
+}
+
+// The next count, of two bytes.
+fn next_count() -> usize {
+    let low = next_byte();
+    let high = next_byte();
+    low + 256 * high
+}
+
+// Reads a count and as many bytes to the front of `part`, and gives back the count.
+fn read_part(part: &mut [u8]) -> usize {
+    let n = next_count();
+    if part.len() < n {
+        return MISSING;
+    }
+    let got = io::read_full(STDIN_FILENO, &mut part[..n]);
+    if got < n {
+        return MISSING;
+    }
+    n
+}
+
+// Reads `n` integers to the front of `list`, and says whether there was room and input for them.
+fn read_integers(list: &mut [i32], n: usize) -> bool {
+    if list.len() < n {
+        return false;
+    }
+    let mut four = [0u8; 4];
+    let mut i: usize = 0;
+    while i < n {
+        let got = io::read_full(STDIN_FILENO, &mut four);
+        if got < 4 {
+            return false;
+        }
+        list[i] = int_at(&four, 0);
+        i += 1;
+    }
+    true
+}
+
+// Reads a count and as many integers, and gives back the count. A normal form has no list.
+fn read_list(kind: usize, list: &mut [i32]) -> usize {
+    if kind == NORMALISE {
+        return 0;
+    }
+    let n = next_count();
+    if read_integers(list, n) { n } else { MISSING }
+}
+
+// Reads the last count, and the witness of a judgement.
+fn read_room(kind: usize, room: &mut [u8]) -> usize {
+    if kind == WHY_NOT {
+        return 0;
+    }
+    if kind == JUDGE {
+        return read_part(room);
+    }
+    next_count()
+}
+
+fn without_parts(kind: usize) -> Request
+    ensures { λ r. ⌜ (r .template ≤ 5000) × (r .list ≤ 64) × (r .room ≤ 1024) ⌝ }
+{
+    Request {
+        kind,
+        template: 0,
+        list: 0,
+        room: 0,
+    }
+}
+
+fn within_bounds(kind: usize, template: usize, list: usize, room: usize) -> Request
+    ensures { λ r. ⌜ (r .template ≤ 5000) × (r .list ≤ 64) × (r .room ≤ 1024) ⌝ }
+{
+    if kind == MISSING {
+        return without_parts(MISSING);
+    }
+    if TEMPLATE_MOST < template {
+        return without_parts(BAD);
+    }
+    if LIST_MOST < list {
+        return without_parts(BAD);
+    }
+    if ROOM_MOST < room {
+        return without_parts(BAD);
+    }
+    Request {
+        kind,
+        template,
+        list,
+        room,
+    }
+}
+
+// Reads the next request.
+pub fn read_request(template: &mut [u8], list: &mut [i32], room: &mut [u8]) -> Request
+    ensures { λ r. ⌜ (r .template ≤ 5000) × (r .list ≤ 64) × (r .room ≤ 1024) ⌝ }
+{
+    let kind = next_byte();
+    let t = read_part(template);
+    let n = read_list(kind, list);
+    let r = read_room(kind, room);
+    within_bounds(kind, t, n, r)
+}
+
+fn print(byte: u8) {
+    let one = [byte];
+    io::write_all(STDOUT_FILENO, &one);
+}
+
+fn print_byte(byte: u8) {
+    io::print_hex(STDOUT_FILENO, byte as u64, 2);
+}
+
+// All of the bytes in hexadecimal, `-` where there is none, and the end of the line.
+fn print_room(room: &[u8]) {
+    if room.len() == 0 {
+        print(b'-');
+    }
+    let mut i: usize = 0;
+    while i < room.len() {
+        print_byte(room[i]);
+        i += 1;
+    }
+    print(b'\n');
+}
+
+// Eight digits of the mask, `-` where no group is given, and the end of the line.
+fn print_group(group: u32) {
+    if group == 0 {
+        print(b'-');
+    } else {
+        io::print_hex(STDOUT_FILENO, group as u64, 8);
+    }
+    print(b'\n');
+}
+
+fn print_bad() {
+    io::write_all(STDOUT_FILENO, b"bad\n");
+}
+
+// What stands behind the number in the line of a good request.
+fn print_rest(kind: usize, answer: Answer, room: &[u8]) {
+    if kind == JUDGE {
+        print(b'\n');
+        return;
+    }
+    print(b' ');
+    if kind == WHY_NOT {
+        print_group(answer.group);
+        return;
+    }
+    if kind == NORMALISE {
+        io::print_decimal(STDOUT_FILENO, answer.length as u64);
+        print(b' ');
+    }
+    print_room(room);
+}
+
+fn is_good(kind: usize) -> bool {
+    (kind == MATCH) | (kind == JUDGE) | (kind == NORMALISE) | (kind == WHY_NOT)
+}
+
+// Prints the line of the answer to a request of this kind, none where the input ends, and says whether another request may follow.
+pub fn print_answer(kind: usize, answer: Answer, room: &[u8]) -> bool {
+    if kind == MISSING {
+        return false;
+    }
+    if !is_good(kind) {
+        print_bad();
+        return false;
+    }
+    io::print_decimal(STDOUT_FILENO, answer.number as u64);
+    print_rest(kind, answer, room);
+    true
+}
