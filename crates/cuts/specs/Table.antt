@@ -13,6 +13,7 @@ use lib.ListN.{length}
 use Rattle.byte_order.specs.ByteOrder.{Joins}
 use Rattle.blocks.specs.declared.Block.{Block}
 use Rattle.blocks.specs.Pieces.{Takes, Cuts}
+use Rattle.suffixes.specs.Suffixes.{Given, entry}
 
 abbrev pub shortest : Block → ℕ
 shortest b = b .k + b .min

@@ -20,7 +20,7 @@ use Rattle.blocks.specs.Pieces.{Takes, Cuts, Fills}
 use Rattle.grammar.specs.Element.{Elem}
 use Rattle.grammar.specs.Template.{grouped, Item, one, spares, permutation, Body, recordOf, setOf, superset, subset, Length, template, membersOfGroup, membersOfItem, membersOfItems, membersOf}
 use Rattle.grammar.specs.Members.{memberHits}
-use Rattle.grammar.specs.Blocks.{block, blockOfGroup, blockOfItem, blocksOfItems, blocksOf}
+use Rattle.grammar.specs.Blocks.{minOf, maxOf, block, blockOfGroup, blockOfItem, blocksOfItems, blocksOf}
 use Rattle.matching.specs.Obeys.{spare, rightBytes, noneTwice, someCut, cuts, itemTakes, bodyMet, lengthMet, obeysBy}
 use Rattle.matching.proofs.ItemsAsBlocks.{MayByte, MayAll, may-append, may-left, may-right, Within, Once, length-once, cnt-outside, Piece, PieceOf, takes-piece, piece-takes, group-says, group-test, item-says, item-test}
 
@@ -307,7 +307,7 @@ module _ {L : Type 0} (may : ℕ → ℕ → Bool) (n : ℕ) (w : List ℕ) (sho
   body-says (recordOf is) k r l b t h = let z : 0 + length w ≡ n = omega arith in rw z at (cuts-says may 0 is w 0 (omega arith) h r)
   body-says (setOf (grouped es st)) k r l b t h =
       let p = group-says 0 (grouped es st) w (omega arith) h in
-      whole-cut may 0 (length es) (Rattle.template.specs.Blocks.minOf st) (Rattle.template.specs.Blocks.maxOf st) n w p r l
+      whole-cut may 0 (length es) (minOf st) (maxOf st) n w p r l
   body-says (superset es) k r l b t h =
       let o = test-once 0 (length es) w h in
       let z = length-once 0 (length es) w (omega arith) b o in
@@ -327,7 +327,7 @@ module _ {L : Type 0} (may : ℕ → ℕ → Bool) (n : ℕ) (w : List ℕ) (sho
       let z = u .size in
       record { rights = u .rights; size = omega arith; none = twice-test (length (membersOfItems is)) w (λ v l. u .few v (λ e. omega arith)); test = u .test }
   body-test (setOf (grouped es st)) k c =
-      let u = cut-whole may 0 (length es) (Rattle.template.specs.Blocks.minOf st) (Rattle.template.specs.Blocks.maxOf st) n w c in
+      let u = cut-whole may 0 (length es) (minOf st) (maxOf st) n w c in
       record { rights = u .1; size = u .2; none = twice-test (length es) w (λ v l. once-few 0 (length es) w (u .0 .once) v (omega arith) (omega arith)); test = group-test 0 (grouped es st) w (omega arith) (u .0) }
   body-test (superset es) k c =
       let u = cut-whole may 0 (length es) 0 255 n w c in
