@@ -1,12 +1,9 @@
--- `read_part` is safe and ends. What is lent to the read lies within `part`, by the test of its length. Assumes nothing.
+-- `read_bytes` is safe and ends. What is lent to the read lies within `part`, by the test of its length. Assumes nothing.
 use mathlib.Core.Path.{sym}
 use lib.Seq.{length-take-le}
 use borrow.Author.Needs.{needs}
-use Rattle.ask_parts.proofs.read_part.Statement.{statement}
-use Rattle.ask_parts.proofs.read_part.Tie as tie
-
-next-count-requires : tie.Need-next-count-requires
-next-count-requires c κs = search needs
+use Rattle.ask_parts.proofs.read_bytes.Statement.{statement}
+use Rattle.ask_parts.proofs.read_bytes.Tie as tie
 
 returns : tie.Need-returns
 returns c = search needs
@@ -26,22 +23,13 @@ same-length c = search needs
 returns-2 : tie.Need-returns-2
 returns-2 c = search needs
 
-same-length-2 : tie.Need-same-length-2
-same-length-2 c = search needs
-
-returns-3 : tie.Need-returns-3
-returns-3 c = search needs
-
-pub read-part-spec : {M : Type 1} → statement M
-read-part-spec =
+pub read-bytes-spec : {M : Type 1} → statement M
+read-bytes-spec =
     tie.close
     (tie.spec
-    next-count-requires
     returns
     slice-relend-prefix-read-full
     slice-aggregate-read-full
     read-full-requires
     same-length
-    returns-2
-    same-length-2
-    returns-3)
+    returns-2)
