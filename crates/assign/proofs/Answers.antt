@@ -1,17 +1,13 @@
 -- An answer of `first_assignment`: one is found where there is one, and the promise allows one answer. Assumes nothing.
-use mathlib.Core.Path.{_≡_, sym, ap, _∙_}
+use mathlib.Core.Path.{_≡_, sym, _∙_}
 use mathlib.Core.Logic.{_⊎_, ⊎-elim}
 use mathlib.Core.Bool.{Bool, true, false}
 use mathlib.Core.List.{List}
-use Prim.Native.Nat.{ℕ, _+_, _-_, _<_}
-use native.Mathlib.Omega.{arith}
-use lib.ListN.{length, getD}
-use lib.Seq.{slice, ext-getD}
-use Rattle.facts.specs.Counting.{between}
+use Prim.Native.Nat.{ℕ, _-_}
+use lib.Seq.{slice}
 use Rattle.blocks.specs.Assignment.{Assigns}
 use Rattle.assign.specs.Answer.{Answer}
 use Rattle.facts.proofs.Cases.{holds?, clash, not-so}
-use Rattle.facts.proofs.Spans.{between-from, between-to}
 use Rattle.facts.proofs.Slices.{same-around}
 use Rattle.byte_order.proofs.ByteOrder.{first-unique}
 

@@ -1,14 +1,38 @@
 // A run of elements cut into consecutive pieces, one for each block: the first cut in byte order.
+ghost use mathlib.Core.Path.{_≡_};
 ghost use Prim.Native.Nat.{_≤_};
 ghost use lib.ListN.{take};
 ghost use Rattle.rows.specs.Rows.{may};
 ghost use Rattle.blocks.specs.Pieces.{Inside, Cutting};
+ghost use Rattle.cut_table.specs.Table.{shortest, longest, together};
 use blocks::Block;
 use blocks::Found;
+use cut_table::last;
+use cut_table::prepend;
 use suffixes::cells::read;
-use table::extent_of;
 
-mod table; // for each place what the blocks so far take from there on
+// How many elements blocks take together: at least `low`, at most `high`.
+struct Extent {
+    low: usize,
+    high: usize,
+}
+
+// How many elements the first `count` blocks take together.
+fn extent_of(blocks: [Block; 32], count: usize) -> Extent
+    requires { ⌜ count ≤ 32 ⌝ }
+    ensures { λ r. ⌜ (r .low ≡ together shortest (take count blocks)) × (r .high ≡ together longest (take count blocks)) ⌝ }
+{
+    let mut low: usize = 0;
+    let mut high: usize = 0;
+    let mut j: usize = 0;
+    while j < count {
+        let b = blocks[j];
+        low += b.k as usize + b.min as usize;
+        high += b.k as usize + b.max as usize;
+        j += 1;
+    }
+    Extent { low, high }
+}
 
 // The first cut of the elements 0 .. n - 1 by the first `count` blocks: the table is made from the last block to the first.
 pub fn first_cut(rows: &[u32; 32], blocks: [Block; 32], count: usize, n: u8) -> Found
@@ -19,7 +43,7 @@ pub fn first_cut(rows: &[u32; 32], blocks: [Block; 32], count: usize, n: u8) -> 
     let whole = extent_of(blocks, count);
     let mut low = whole.low;
     let mut high = whole.high;
-    let mut t = table::last(to);
+    let mut t = last(to);
     let mut j = count;
     while 0 < j {
         j -= 1;
@@ -27,7 +51,7 @@ pub fn first_cut(rows: &[u32; 32], blocks: [Block; 32], count: usize, n: u8) -> 
         // the blocks before b take so many elements
         low -= b.k as usize + b.min as usize;
         high -= b.k as usize + b.max as usize;
-        table::prepend(rows, b, &mut t, low, high, to);
+        prepend(rows, b, &mut t, low, high, to);
     }
     let s = read(&t, 0);
     let w = s.w;

@@ -13,11 +13,11 @@ use format::SINGLE;
 use format::SINGLE_SIZE;
 use integers::int_at;
 use ranges::Ranges;
-use ranges::append;
 use ranges::empty;
 use ranges::gaps;
 use ranges::one;
-use ranges::swept;
+use sweeping::append;
+use sweeping::swept;
 
 // A set, and the place after the element template that it belongs to.
 pub struct Found {

@@ -3,11 +3,9 @@
 -- JoinsAndGaps == the laws of joining and of gaps; a set has one list of ascending ranges; how many ranges it can have
 -- Views  == what two arrays hold as ranges
 -- Steps  == gaps, a step at a time; the least
--- Sweeps == one sweep over ranges whose lower ends rise
 -- Unique == the promises of the public functions allow one result only
 pub mod Ranked
 pub mod JoinsAndGaps
 pub mod Views
-mod Sweeps
 mod Steps
 pub mod Unique

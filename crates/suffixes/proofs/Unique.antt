@@ -3,13 +3,11 @@ use mathlib.Core.Path.{_≡_, refl, sym, ap₂, _∙_}
 use mathlib.Core.Logic.{_⊎_, ⊎-elim}
 use mathlib.Core.Bool.{Bool, true, false}
 use mathlib.Core.List.{List}
-use Prim.Native.Nat.{ℕ, _≤_, _<_}
-use lib.ListN.{length, getD, replicate}
+use Prim.Native.Nat.{ℕ, _≤_}
 use lib.Seq.{slice}
 use borrow.Fn.Kinds.{Dens, resT, endedOf}
 use contract.Lifetimes.{Lfts}
 use denote.Triple.Clauses.{AtExit}
-use Rattle.facts.specs.Counting.{between}
 use Rattle.facts.proofs.Cases.{same?, holds?, clash, not-so}
 use Rattle.facts.proofs.Slices.{same-around}
 use Rattle.byte_order.proofs.ByteOrder.{first-unique}
@@ -78,7 +76,7 @@ made there w = record { there = there; w = w }
 given-there : {P : List ℕ → Type 0} {from to : ℕ} {s u : Suffix} → Given P from to s → Given P from to u → s .there ≡ true → u .there ≡ true
 given-there {P} {from} {to} {s} {u} p q t = ⊎-elim (λ (e : u .there ≡ true). e) (λ (e : u .there ≡ false). absurd (q .none e (slice from to (s .w)) (p .best t .holds))) (holds? (u .there))
 
-given-one : {P : List ℕ → Type 0} {from to : ℕ} (s u : Suffix) → Given P from to s → Given P from to u → s ≡ u
+pub given-one : {P : List ℕ → Type 0} {from to : ℕ} (s u : Suffix) → Given P from to s → Given P from to u → s ≡ u
 given-one {P} {from} {to} s u p q = ⊎-elim
     (λ (t : s .there ≡ true).
     let v = given-there p q t in

@@ -10,17 +10,17 @@ use Rattle.blocks.specs.declared.Block.{Block}
 use Rattle.suffixes.specs.declared.Suffix.{Suffix}
 use Rattle.blocks.specs.Pieces.{Cuts}
 use Rattle.suffixes.specs.Suffixes.{Given}
-use Rattle.cuts.specs.Table.{Tabled, shortest, longest, together}
-use Rattle.cuts.proofs.Tables.{together-more, together-none, cut-start, cut-step, cut-end}
+use Rattle.cut_table.specs.Table.{Tabled, shortest, longest, together}
+use Rattle.cut_table.proofs.Tables.{together-more, together-none, cut-start, cut-step, cut-end}
 use Rattle.blocks.proofs.Cutting.{cut-inside}
 use Rattle.cuts.proofs.first_cut.Statement.{statement}
 use Rattle.cuts.proofs.first_cut.Tie as tie
 use Rattle.cuts.proofs.first_cut.Reads as reads
 use Rattle.cuts.proofs.first_cut.Lts as lts
 use Rattle.suffixes.proofs.cells.read.Reads as read-reads
-use Rattle.cuts.proofs.table.extent_of.Reads as extent-of-reads
-use Rattle.cuts.proofs.table.last.Reads as last-reads
-use Rattle.cuts.proofs.table.prepend.Reads as prepend-reads
+use Rattle.cuts.proofs.extent_of.Reads as extent-of-reads
+use Rattle.cut_table.proofs.last.Reads as last-reads
+use Rattle.cut_table.proofs.prepend.Reads as prepend-reads
 
 abbrev no-block : Block
 no-block = record { first = 0; k = 0; min = 0; max = 0 }

@@ -31,8 +31,8 @@ use Rattle.normal.proofs.walk.leaf_at.Reads as leaf-at-reads
 use Rattle.ranges.proofs.one.Reads as one-reads
 use Rattle.ranges.proofs.empty.Reads as empty-reads
 use Rattle.ranges.proofs.gaps.Reads as gaps-reads
-use Rattle.ranges.proofs.append.Reads as append-reads
-use Rattle.ranges.proofs.swept.Reads as swept-reads
+use Rattle.sweeping.proofs.append.Reads as append-reads
+use Rattle.sweeping.proofs.swept.Reads as swept-reads
 use Rattle.normal.proofs.walk.+any_of+set_of.{statement}
 use Rattle.normal.proofs.walk.+any_of+set_of.Tie.{close}
 
