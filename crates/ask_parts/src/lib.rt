@@ -18,15 +18,15 @@ pub const WHY_NOT: usize = 7;
 const BAD: usize = 0;
 
 // Stands for a byte that is missing; a count with such a byte is over every bound. The kind where the input ends.
-const MISSING: usize = 65536;
+const ABSENT: usize = 65536;
 
 // The bounds of the counts.
-const TEMPLATE_MOST: usize = 5000;
+const ASKED_TEMPLATE_MOST: usize = 5000;
 
-const LIST_MOST: usize = 64;
+const ASKED_LIST_MOST: usize = 64;
 
 // Of the bytes of a room, and of a witness.
-const ROOM_MOST: usize = 1024;
+const ASKED_ROOM_MOST: usize = 1024;
 
 // What stands at the front of the three arrays that are lent: template bytes, integers, and the bytes of the room or the witness.
 pub struct Request {
@@ -56,7 +56,7 @@ fn next_byte() -> usize
     let mut one = [0u8; 1];
     let got = io::read_full(STDIN_FILENO, &mut one);
     if got == 0 {
-        return MISSING;
+        return ABSENT;
     }
     wide(one[0])
 }
@@ -66,7 +66,7 @@ fn next_count() -> usize {
     let mut two = [0u8; 2];
     let got = io::read_full(STDIN_FILENO, &mut two);
     if got < 2 {
-        return MISSING;
+        return ABSENT;
     }
     wide(two[0]) + 256 * wide(two[1])
 }
@@ -83,7 +83,7 @@ fn read_bytes(part: &mut [u8], n: usize) -> bool {
 // Reads a count and as many bytes to the front of `part`, and gives back the count.
 fn read_part(part: &mut [u8]) -> usize {
     let n = next_count();
-    if read_bytes(part, n) { n } else { MISSING }
+    if read_bytes(part, n) { n } else { ABSENT }
 }
 
 // Reads `n` integers to the front of `list`, and says whether there was room and input for them.
@@ -91,7 +91,7 @@ fn read_integers(list: &mut [i32], n: usize) -> bool {
     if list.len() < n {
         return false;
     }
-    if LIST_MOST < n {
+    if ASKED_LIST_MOST < n {
         return false;
     }
     let mut bytes = [0u8; 256];
@@ -112,7 +112,7 @@ fn read_list(kind: usize, list: &mut [i32]) -> usize {
         return 0;
     }
     let n = next_count();
-    if read_integers(list, n) { n } else { MISSING }
+    if read_integers(list, n) { n } else { ABSENT }
 }
 
 // Reads the last count, and the witness of a judgement.
@@ -140,16 +140,16 @@ fn without_parts(kind: usize) -> Request
 fn within_bounds(kind: usize, template: usize, list: usize, room: usize) -> Request
     ensures { λ r. ⌜ (r .template ≤ 5000) × (r .list ≤ 64) × (r .room ≤ 1024) ⌝ }
 {
-    if kind == MISSING {
-        return without_parts(MISSING);
+    if kind == ABSENT {
+        return without_parts(ABSENT);
     }
-    if TEMPLATE_MOST < template {
+    if ASKED_TEMPLATE_MOST < template {
         return without_parts(BAD);
     }
-    if LIST_MOST < list {
+    if ASKED_LIST_MOST < list {
         return without_parts(BAD);
     }
-    if ROOM_MOST < room {
+    if ASKED_ROOM_MOST < room {
         return without_parts(BAD);
     }
     Request {
@@ -193,7 +193,7 @@ fn print_room(room: &[u8]) {
         io::write_all(STDOUT_FILENO, b"-\n");
         return;
     }
-    if ROOM_MOST < room.len() {
+    if ASKED_ROOM_MOST < room.len() {
         return;
     }
     let mut line = [b'\n'; 2049];
@@ -245,7 +245,7 @@ fn is_good(kind: usize) -> bool {
 
 // Prints the line of the answer to a request of this kind, none where the input ends, and says whether another request may follow.
 pub fn print_answer(kind: usize, answer: Answer, room: &[u8]) -> bool {
-    if kind == MISSING {
+    if kind == ABSENT {
         return false;
     }
     if !is_good(kind) {

@@ -2,7 +2,6 @@
 -- is written from and how long it is, on which demand 3 rests. The contracts of the entry points are equations:
 -- `match_list` gives `matchAnswer`, `judge` gives `judgeAnswer`, `normalise` gives `normalised`, for every template, list and buffer.
 -- Accepts t s <-> the bytes t are accepted as a template, and that is s
--- Obeys s xs w <-> the assignment w of the list xs obeys the rules of document 01 for the template s
 -- Kept room after n <-> the first n bytes of the room were written, and no other byte changed
 -- MatchGiven t xs room r after <-> what demand 1 asks of the matcher's number r and of the room afterwards
 -- JudgeGiven t xs w r <-> what demand 1 asks of the judge's number r
@@ -37,7 +36,7 @@ use Rattle.grammar.specs.Template.{Template}
 use Rattle.grammar.specs.Read.{refuse, got}
 use Rattle.grammar.specs.Reading.{readElement}
 use Rattle.grammar.specs.Whole.{readTemplate}
-use Rattle.matching.specs.Obeys.{obeys}
+use Rattle.matching.specs.Obeys.{Obeys}
 use Rattle.matching.specs.Answer.{given, matchAnswer, judgeAnswer}
 use Rattle.grammar.specs.Matches.{matches}
 use Rattle.ranges.specs.Spans.{Span, span, least, greatest, holds, Ascending}
@@ -49,9 +48,6 @@ use Rattle.demands.specs.Judged.{allComeOut, judged}
 
 abbrev pub Accepts : List ℕ → Template Leaf → Type 0
 Accepts t s = readTemplate leafHead t ≡ got s []
-
-abbrev pub Obeys : Template Leaf → List ℤ → List ℕ → Type 0
-Obeys s xs w = obeys s xs w ≡ true
 
 pub record Kept (room after : List ℕ) (n : ℕ) : Type 0 where
   pub bytes : List ℕ

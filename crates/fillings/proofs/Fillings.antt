@@ -18,6 +18,7 @@ use Rattle.assign.specs.Answer.{Answer}
 use Rattle.facts.proofs.Cases.{same?, below, clash, not-so, hit, miss}
 use Rattle.facts.proofs.Spans.{between-in}
 use Rattle.byte_order.proofs.ByteOrder.{earlier-append-left}
+use Rattle.facts.proofs.CountedSets.{count-zero}
 use Rattle.facts.proofs.Counting.{cnt-append, count-places, count-less, places-into}
 use Rattle.blocks.proofs.Assignments.{takes-inv, takes-member}
 use Rattle.blocks.specs.Pieces.{Fills, Filling}
@@ -174,10 +175,6 @@ other-same e = ap not (eq-eqb e e refl)
 other-than : (e i : ℕ) → (i ≡ e → ⊥) → other e i ≡ true
 unfolding other
 other-than e i n = ap not (ne-eqb i e n)
-
-count-zero : (P : ℕ → Bool) → count P 0 ≡ 0
-unfolding count
-count-zero P = refl
 
 all-in : (v : ℕ) → all v ≡ true
 unfolding all

@@ -5,6 +5,7 @@ use mathlib.Core.List.{List}
 use Prim.Native.Nat.{ℕ, _+_, _≤_}
 use native.Mathlib.Omega.{arith}
 use lib.ListN.{length, drop, length-append, length-drop}
+use Rattle.facts.proofs.Cases.{clash}
 use Rattle.lines.specs.Contract.{Wrote}
 use Rattle.intake_lines.specs.Output.{Turn}
 use Rattle.intake_lines.specs.Contract.{Headed, refused, found, Turned, stopped, went}
@@ -17,20 +18,17 @@ wrote-within l before after wrote same w =
     let n = w .count in
     omega arith
 
-not-both : (m : Bool) → m ≡ true → m ≡ false → ⊥
-not-both m p q = let z : _≡_ {A = ℕ} 0 1 = cc in omega arith
-
 module _ (s before after : List ℕ) (wrote next : ℕ) (more : Bool) where
   pub headed-within : Headed s before after wrote next more → length after ≡ length before → wrote ≤ length before
   headed-within (refused r q w n m) same = wrote-within _ before after wrote same w
   headed-within (found q f i w m) same = wrote-within _ before after wrote same w
 
   pub headed-from : Headed s before after wrote next more → more ≡ true → 3 ≤ next
-  headed-from (refused r q w n m) go = absurd (not-both more go m)
+  headed-from (refused r q w n m) go = absurd (clash go m)
   headed-from (found q f i w m) go = f
 
   pub headed-to : Headed s before after wrote next more → more ≡ true → next ≤ length s
-  headed-to (refused r q w n m) go = absurd (not-both more go m)
+  headed-to (refused r q w n m) go = absurd (clash go m)
   headed-to (found q f i w m) go = i
 
 module _ (u : Turn) (input : List ℕ) (at : ℕ) (before after : List ℕ) (wrote next : ℕ) (more : Bool) where
@@ -39,9 +37,9 @@ module _ (u : Turn) (input : List ℕ) (at : ℕ) (before after : List ℕ) (wro
   turned-within (went l q w f i m) same = wrote-within l before after wrote same w
 
   pub turned-from : Turned u input at before after wrote next more → more ≡ true → at + 2 ≤ next
-  turned-from (stopped l q w n m) go = absurd (not-both more go m)
+  turned-from (stopped l q w n m) go = absurd (clash go m)
   turned-from (went l q w f i m) go = f
 
   pub turned-to : Turned u input at before after wrote next more → more ≡ true → next ≤ length input
-  turned-to (stopped l q w n m) go = absurd (not-both more go m)
+  turned-to (stopped l q w n m) go = absurd (clash go m)
   turned-to (went l q w f i m) go = i

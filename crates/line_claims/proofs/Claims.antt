@@ -9,7 +9,7 @@ use lib.ListN.{length, take, drop}
 use lib.Seq.{take-append-seam}
 use lib.IntN.{ℤ}
 use borrow.Author.Tests.{eq-eqb}
-use Rattle.facts.proofs.Cases.{by-test}
+use Rattle.facts.proofs.Cases.{by-test, clash}
 use Rattle.grammar.specs.Read.{Read, refuse, got}
 use Rattle.lines.specs.Line.{line}
 use Rattle.lines.specs.Contract.{Wrote}
@@ -78,17 +78,14 @@ stepThenRest t k s l s′ e =
 in-front : (l before after : List ℕ) (wrote : ℕ) → Wrote l before after wrote → take wrote after ≡ l
 in-front l before after wrote w = ap (λ (n : ℕ). take n after) (w .count) ∙ ap (λ (b : List ℕ). take (length l) b) (w .bytes) ∙ take-append-seam l (drop (length l) before)
 
-not-both : true ≡ false → ⊥
-not-both e = let z : _≡_ {A = ℕ} 0 1 = cc in omega arith
-
 module _ (t input : List ℕ) (at k : ℕ) (before after : List ℕ) (wrote next : ℕ) where
   last-prints : Turned (turn t k (drop at input)) input at before after wrote next false → take wrote after ≡ linesFrom t k (drop at input)
   last-prints (stopped l e w n m) = in-front l before after wrote w ∙ sym (stepIsLast t k (drop at input) l e)
-  last-prints (went l e w f i m) = absurd (not-both (sym m))
+  last-prints (went l e w f i m) = absurd (clash refl (sym m))
 
   then-prints : Turned (turn t k (drop at input)) input at before after wrote next true → (ls : List ℕ) → ls ≡ linesFrom t (k + 1) (drop next input)
       → take wrote after ++ ls ≡ linesFrom t k (drop at input)
-  then-prints (stopped l e w n m) ls q = absurd (not-both m)
+  then-prints (stopped l e w n m) ls q = absurd (clash refl m)
   then-prints (went l e w f i m) ls q =
       ap (λ (b : List ℕ). b ++ ls) (in-front l before after wrote w)
       ∙ ap (λ (b : List ℕ). l ++ b) q
@@ -102,12 +99,12 @@ steps-print t input _ _ _ (then at k before after wrote next ls u s) =
 header-prints : (input before after : List ℕ) (wrote next : ℕ) → Headed input before after wrote next false → take wrote after ≡ output input
 unfolding output started
 header-prints input before after wrote next (refused r e w n m) = in-front (line 0 (r ∷ 0 ∷ [])) before after wrote w ∙ sym (ap started e)
-header-prints input before after wrote next (found e f i w m) = absurd (not-both (sym m))
+header-prints input before after wrote next (found e f i w m) = absurd (clash refl (sym m))
 
 header-found : (input before after : List ℕ) (wrote next : ℕ) → Headed input before after wrote next true
     → linesFrom (take (next - 3) (drop 3 input)) 1 (drop next input) ≡ output input
 unfolding output started
-header-found input before after wrote next (refused r e w n m) = absurd (not-both m)
+header-found input before after wrote next (refused r e w n m) = absurd (clash refl m)
 header-found input before after wrote next (found e f i w m) = sym (ap started e)
 
 pub outputPrinted : OutputPrinted

@@ -24,12 +24,12 @@ use Rattle.grammar.specs.Members.{memberHits}
 use Rattle.grammar.specs.Blocks.{blockOfGroup, blockOfItem, blocksOfItems, blocksOf, bodyKind, lowOf, highOf, Standing}
 use Rattle.member_rows.specs.Contract.{Planned, PlanOf, noPlan, aPlan, RowsOf}
 use Rattle.member_rows.specs.declared.Plan.{Plan}
-use Rattle.matching.specs.Obeys.{rightBytes, noneTwice, bodyMet, lengthMet, obeysBy, obeys}
+use Rattle.matching.specs.Obeys.{rightBytes, noneTwice, bodyMet, lengthMet, obeysBy, obeys, Obeys}
 use Rattle.matching.specs.Search.{membersCount}
 use Rattle.matching.specs.Answer.{given, written, matchRead, matchAnswer, judgeRead, judgeAnswer}
 use Rattle.matcher.specs.Contract.{Ready, FirstBy, PassedBy}
 use Rattle.matching.proofs.RulesByBlocks.{Agree, ByBlocks, obeys-says, obeys-test}
-use Rattle.matching.proofs.FirstWitness.{Obeys, witness-first, witness-none}
+use Rattle.matching.proofs.FirstWitness.{witness-first, witness-none}
 
 -- ---- lists
 

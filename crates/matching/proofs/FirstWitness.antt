@@ -17,7 +17,7 @@ use Rattle.grammar.specs.Leaf.{Leaf}
 use Rattle.grammar.specs.Template.{Template, template, membersOf}
 use Rattle.grammar.specs.Matches.{matches}
 use Rattle.grammar.specs.Members.{memberHits}
-use Rattle.matching.specs.Obeys.{spare, rightBytes, noneTwice, bodyMet, lengthMet, obeysBy, obeys}
+use Rattle.matching.specs.Obeys.{spare, rightBytes, noneTwice, bodyMet, lengthMet, obeysBy, obeys, Obeys}
 use Rattle.matching.proofs.RulesByBlocks.{hits-low}
 use Rattle.matching.specs.Search.{Maybe, nothing, just, put, orElse, tryEach, firstOf, from, bytesOf, membersCount, firstWitness}
 
@@ -170,9 +170,6 @@ pub obeys-size : (t : Template Leaf) (xs : List ℤ) (w : List ℕ) → obeys t 
 obeys-size t xs w h = obeys-in t xs w h .1
 
 -- ---- the first witness
-
-abbrev pub Obeys : Template Leaf → List ℤ → List ℕ → Type 0
-Obeys t xs w = obeys t xs w ≡ true
 
 pub witness-none : (t : Template Leaf) (xs : List ℤ) → ((v : List ℕ) → Obeys t xs v → ⊥) → membersCount t ≤ 32 → firstWitness t xs ≡ nothing
 unfolding firstWitness

@@ -15,7 +15,9 @@
 -- lengthMet a n    == a list of n elements meets the length attribute a
 -- obeysBy hits t xs w == w is an assignment of the list xs that obeys the rules of the template t
 -- obeys t xs w     == the same for integers
+-- Obeys t xs w    <-> the same as a statement
 -- Assumes nothing: these are definitions.
+use mathlib.Core.Path.{_≡_}
 use mathlib.Core.Bool.{Bool, true, false, _&&_, _||_}
 use mathlib.Core.List.{List, [], _∷_}
 use Prim.Native.Nat.{ℕ, zero, suc, _+_}
@@ -102,3 +104,6 @@ obeysBy hits (template a b) xs w =
 
 abbrev pub obeys : Template Leaf → List ℤ → List ℕ → Bool
 obeys t xs w = obeysBy matches t xs w
+
+abbrev pub Obeys : Template Leaf → List ℤ → List ℕ → Type 0
+Obeys t xs w = obeys t xs w ≡ true

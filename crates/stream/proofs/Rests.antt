@@ -7,14 +7,12 @@ use lib.ListN.{length, getD, drop, length-drop}
 use lib.IntN.{ℤ}
 use Rattle.integers.specs.Integer.{intAt}
 use Rattle.grammar.specs.Read.{Read, refuse, got, refuseOr}
+use Rattle.grammar.proofs.ReadApart.{clash}
 use Rattle.stream.specs.Input.{recordFault, putInteger, integers, listFault, listHere}
 use Rattle.stream.specs.Contract.{Listed, faulty, read}
 use Rattle.stream.proofs.Lists.{list-inv}
 
 -- ---- a list goes two bytes further at least
-
-differ : {A : Type 0} (r : ℕ) (a : A) (s : List ℕ) → refuse r ≡ got a s → ⊥
-differ r a s e = let z : _≡_ {A = ℕ} 0 1 = cc in omega arith
 
 same-rest : {A : Type 0} (a b : A) (s s′ : List ℕ) → got a s ≡ got b s′ → s ≡ s′
 same-rest a b s s′ e = cc
@@ -22,8 +20,8 @@ same-rest a b s s′ e = cc
 first-rest : (r : ℕ) (x : ℤ) (o : Read (List ℤ)) (m : ℕ) (xs : List ℤ) (s : List ℕ) → ((ys : List ℤ) (s′ : List ℕ) → o ≡ got ys s′ → length s′ ≤ m)
     → refuseOr r (putInteger x o) ≡ got xs s → length s ≤ m
 unfolding putInteger
-first-rest (suc r) x o m xs s ih e = absurd (differ (suc r) xs s e)
-first-rest zero x (refuse r) m xs s ih e = absurd (differ r xs s e)
+first-rest (suc r) x o m xs s ih e = absurd (clash e)
+first-rest zero x (refuse r) m xs s ih e = absurd (clash e)
 first-rest zero x (got ys s′) m xs s ih e = let l = ap length (same-rest (x ∷ ys) xs s′ s e) in let h = ih ys s′ refl in omega arith
 
 integers-rest : (n : ℕ) (s : List ℕ) (xs : List ℤ) (s′ : List ℕ) → integers n s ≡ got xs s′ → length s′ ≤ length s
@@ -39,7 +37,7 @@ unfolding listHere
 list-rest s xs s′ e = at-fault (listFault s) refl e
   where
     at-fault : (r : ℕ) → listFault s ≡ r → refuseOr r (integers (getD s 1 0) (drop 2 s)) ≡ got xs s′ → length s′ + 2 ≤ length s
-    at-fault (suc r) f q = absurd (differ (suc r) xs s′ q)
+    at-fault (suc r) f q = absurd (clash q)
     at-fault zero f q =
         let long = list-inv s f .long in
         let l = length-drop 2 s in

@@ -10,6 +10,7 @@ use borrow.Fn.Kinds.{Dens, resT, endedOf}
 use contract.Lifetimes.{Lfts}
 use denote.Triple.Clauses.{AtExit}
 use Rattle.grammar.specs.Read.{Read, refuse, got}
+use Rattle.grammar.proofs.ReadApart.{clash}
 use Rattle.stream.specs.Contract.{zeros, Listed, faulty, read}
 use Rattle.stream.specs.declared.List.{List as ListResult}
 use Rattle.stream.proofs.record_fault.Reads as record-fault
@@ -36,9 +37,6 @@ made code n next xs = record { code = code; n = n; next = next; xs = xs }
 made-same : (code code′ n n′ next next′ : ℕ) (xs xs′ : List ℤ) → code ≡ code′ → n ≡ n′ → next ≡ next′ → xs ≡ xs′ → made code n next xs ≡ made code′ n′ next′ xs′
 made-same code code′ n n′ next next′ xs xs′ p q u e = ap₂ (λ (c m : ℕ). made c m next xs) p q ∙ ap₂ (λ (v : ℕ) (l : List ℤ). made code′ n′ v l) u e
 
-differ : (o : Read (List ℤ)) (r : ℕ) (xs : List ℤ) (s : List ℕ) → o ≡ refuse r → o ≡ got xs s → ⊥
-differ o r xs s p q = let z : _≡_ {A = ℕ} 0 1 = cc in omega arith
-
 refusal-same : (o : Read (List ℤ)) (r r′ : ℕ) → o ≡ refuse r → o ≡ refuse r′ → r ≡ r′
 refusal-same o r r′ p q = cc
 
@@ -63,8 +61,8 @@ pub listed-unique : (t : List ℕ) (o : Read (List ℤ)) (code code′ n n′ ne
     → Listed t o code n next xs → Listed t o code′ n′ next′ xs′ → made code n next xs ≡ made code′ n′ next′ xs′
 listed-unique t o code code′ n n′ next next′ xs xs′ (faulty q p m w b) (faulty q′ p′ m′ w′ b′) =
     made-same code code′ n n′ next next′ xs xs′ (refusal-same o code code′ q q′) (m ∙ sym m′) (w ∙ sym w′) (b ∙ sym b′)
-listed-unique t o code code′ n n′ next next′ xs xs′ (faulty q p m w b) (read q′ z′ f′ i′ l′ b′) = absurd (differ o code (take n′ xs′) (drop next′ t) q q′)
-listed-unique t o code code′ n n′ next next′ xs xs′ (read q z f i l b) (faulty q′ p′ m′ w′ b′) = absurd (differ o code′ (take n xs) (drop next t) q′ q)
+listed-unique t o code code′ n n′ next next′ xs xs′ (faulty q p m w b) (read q′ z′ f′ i′ l′ b′) = absurd (clash (sym q ∙ q′))
+listed-unique t o code code′ n n′ next next′ xs xs′ (read q z f i l b) (faulty q′ p′ m′ w′ b′) = absurd (clash (sym q′ ∙ q))
 listed-unique t o code code′ n n′ next next′ xs xs′ (read q z f i l b) (read q′ z′ f′ i′ l′ b′) =
     let e = got-same o (take n xs) (take n′ xs′) (drop next t) (drop next′ t) q q′ in
     made-same code code′ n n′ next next′ xs xs′ (z ∙ sym z′) (count-same n n′ xs xs′ f f′ l l′ (e .0)) (same-place t next next′ i i′ (e .1)) (integers-same n n′ xs xs′ f f′ l l′ (e .0) b b′)
