@@ -44,12 +44,12 @@ fn members_of(b: Block) -> u32
 }
 
 // The last place of a list of n elements at which a piece of b that begins at `from` may end.
-fn last_end(b: Block, from: usize, n: usize) -> usize
+fn last_end(b: Block, from: usize, n: u8) -> usize
     requires { ⌜ (from ≤ n) × (n ≤ 32) ⌝ }
     ensures { λ r. ⌜ r ≡ min (from + b .k + b .max) n ⌝ }
 {
     let most = from + b.k as usize + b.max as usize;
-    lesser(most, n)
+    lesser(most, n as usize)
 }
 
 // The ends, with `to` where the piece from .. to - 1, in which these members stand, has all members of b and no fewer elements than b asks.
@@ -72,7 +72,7 @@ fn piece_ends(rows: &[u32; 32], b: Block, all: u32, w: &[u8], from: usize, ends:
     requires { ⌜ (b .first + b .k ≤ 32) × Group b all × (from ≤ length (now w)) × (length (now w) ≤ 32) ⌝ }
     ensures { λ r. ⌜ Ends (may (now (rows .entry))) b from (length (now (w .entry)) + 1) (now (w .entry)) ends r ⌝ }
 {
-    let furthest = last_end(b, from, w.len());
+    let furthest = last_end(b, from, w.len() as u8);
     let mut found = ends;
     let mut members: u32 = 0;
     let mut to = from;

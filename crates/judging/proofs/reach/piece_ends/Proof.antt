@@ -26,6 +26,9 @@ Inv-loop rows b all w from ends furthest found₀ members₀ to₀ found members
 abbrev μ-loop : tie.MeasureT-loop
 μ-loop rows b all w from ends furthest found₀ members₀ to₀ found members to = furthest - to
 
+cast-last-end : tie.Need-cast-last-end Inv-loop μ-loop
+cast-last-end c = omega arith
+
 last-end-requires : tie.Need-last-end-requires Inv-loop μ-loop
 last-end-requires c κs = let p = c .before .pre in (p .2, p .3)
 
@@ -100,6 +103,7 @@ piece-ends-spec =
     (tie.spec
     Inv-loop
     μ-loop
+    cast-last-end
     last-end-requires
     loop-holds
     mark-requires
