@@ -3,6 +3,7 @@
 -- Plus P m S   <-> the set S is P with m in it
 -- Flipped P k S <-> the set S is P but for k, which is in just one of them
 -- Lowest n e   <-> e is the least number in the mask n
+-- Meets a b r  <-> r says whether the masks a and b have a number in common
 -- Assumes nothing: these are definitions.
 use mathlib.Core.Path.{_≡_}
 use mathlib.Core.Bool.{Bool, true, false, not}
@@ -24,3 +25,7 @@ pub record Lowest (n e : ℕ) : Type 0 where
   pub low : e < 32
   pub inside : bit n e ≡ true
   pub least : (j : ℕ) → j < e → bit n j ≡ false
+
+pub record Meets (a b : ℕ) (r : Bool) : Type 0 where
+  pub some : r ≡ true → (v : ℕ) × (bit a v ≡ true) × (bit b v ≡ true)
+  pub none : r ≡ false → (v : ℕ) → bit a v ≡ true → bit b v ≡ true → ⊥

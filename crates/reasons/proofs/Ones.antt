@@ -12,12 +12,11 @@ use lib.Dec.{lit<}
 use lib.Count.{ones, ones-step}
 use lib.ListN.{getD}
 use Rattle.facts.specs.Counting.{oneIf, count}
-use Rattle.masks.specs.Masks.{bit, Plus}
+use Rattle.masks.specs.Masks.{bit, Plus, Meets}
 use Rattle.rows.specs.Rows.{may}
 use Rattle.facts.proofs.Cases.{same?, below, clash, hit, miss}
 use Rattle.masks.proofs.Masks.{bit-half, bit-low, bit-none, bit-past}
 use Rattle.rows.proofs.Rows.{row-may}
-use Rattle.reasons.specs.Grow.{Meets}
 use Rattle.facts.proofs.CountedSets.{count-same}
 use Rattle.reasons.proofs.Groups.{met, met-in, met-low, met-inv, same-test}
 

@@ -1,26 +1,24 @@
 -- One sweep over the elements, and sweeps until nothing is added. Assumes nothing.
--- meets-is: two masks have a number in common. sweep-start, sweep-spare, sweep-apart, sweep-owner, sweep-done: one sweep, element by element.
+-- sweep-start, sweep-spare, sweep-apart, sweep-owner, sweep-done: one sweep, element by element.
 -- grow-start, grow-more: one sweep more. turns-fall: the sweeps come to an end.
 use mathlib.Core.Path.{_≡_, refl, sym, ap, _∙_, subst}
 use mathlib.Core.Logic.{_⊎_, inl, inr, ⊎-elim}
 use mathlib.Core.Bool.{Bool, true, false, not}
 use mathlib.Core.List.{List}
-use Prim.Native.Nat.{ℕ, _+_, _-_, _^_, _≤_, _<_}
+use Prim.Native.Nat.{ℕ, _+_, _-_, _≤_, _<_}
 use native.Mathlib.Omega.{arith}
 use lib.Dec.{eqb}
-use lib.Bits.{bitAnd, and-le-l}
-use lib.Count.{trailingZeros}
 use lib.ListN.{getD}
-use borrow.Author.Tests.{eqb-true, eqb-false, eq-eqb, not-true, not-false}
+use borrow.Author.Tests.{eqb-true, eq-eqb, not-false}
 use Rattle.facts.specs.Counting.{oneIf, count}
-use Rattle.masks.specs.Masks.{bit, Plus}
+use Rattle.masks.specs.Masks.{bit, Plus, Meets}
 use Rattle.rows.specs.Rows.{may}
 use Rattle.facts.proofs.Cases.{same?, holds?, clash}
-use Rattle.masks.proofs.Masks.{bits-same, lowest-bit, and-bits, and-none}
+use Rattle.masks.proofs.Masks.{bits-same}
 use Rattle.rows.proofs.Rows.{row-may}
 use Rattle.facts.proofs.Counting.{count-less}
 use Rattle.facts.proofs.CountedSets.{one-bound, count-bound}
-use Rattle.reasons.specs.Grow.{Meets, HeldClosed, Swept}
+use Rattle.reasons.specs.Grow.{HeldClosed, Swept}
 
 -- r is G and some of those who hold an element that one of r matches: all of them for the elements below e, where r is G
 pub record Sweeping (rows : List ℕ) (n : ℕ) (w : List ℕ) (G e r : ℕ) : Type 0 where
@@ -31,14 +29,6 @@ pub record Sweeping (rows : List ℕ) (n : ℕ) (w : List ℕ) (G e r : ℕ) : T
 
 pub sweep-start : {rows : List ℕ} {n : ℕ} {w : List ℕ} {G : ℕ} → Sweeping rows n w G 0 G
 sweep-start = record { grew = λ v t. t; least = λ C c up. up; passed = λ i l. absurd (omega arith); bigger = inl refl }
-
--- two masks have a number in common, or not
-pub meets-is : (a b : ℕ) → a < 2 ^ 32 → Meets a b (not (eqb (bitAnd a b) 0))
-meets-is a b l = record {
-  some = λ t. let n = eqb-false (bitAnd a b) 0 (not-true _ t) in let le = and-le-l a b in let low = lowest-bit (bitAnd a b) (omega arith) (omega arith) in
-      let k = and-bits a b _ (low .inside) in (trailingZeros 32 (bitAnd a b), k .0, k .1);
-  none = λ t v p q. and-none a b v (eqb-true (bitAnd a b) 0 (not-false _ t)) p q;
-}
 
 module _ {rows : List ℕ} {n : ℕ} {w : List ℕ} {G e r : ℕ} (s : Sweeping rows n w G e r) where
   further : ((v : ℕ) → bit G v ≡ true → may rows v e ≡ true → getD w e 0 < 32 → bit r (getD w e 0) ≡ true) → Sweeping rows n w G (e + 1) r

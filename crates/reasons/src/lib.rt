@@ -9,17 +9,12 @@ ghost use Rattle.rows.specs.Rows.{may};
 ghost use Rattle.facts.specs.Counting.{between};
 ghost use Rattle.blocks.specs.Assignment.{wanted};
 ghost use Rattle.reasons.specs.Reason.{matched, sizeOf, Given};
-ghost use Rattle.reasons.specs.Grow.{Meets, Swept, Grown};
+ghost use Rattle.reasons.specs.Grow.{Swept, Grown};
 use assign::widest_assignment;
+use format::MEMBERS_MOST;
+use masks::meets;
 use masks::with;
 use rows::turned;
-
-// Whether two sets have a number in common.
-fn meets(a: u32, b: u32) -> bool
-    ensures { λ r. ⌜ Meets a b r ⌝ }
-{
-    a & b != 0
-}
 
 // The group, with those who hold an element that one of it matches: one sweep over the elements.
 fn swept(rows: &[u32; 32], w: [u8; 32], n: u8, group: u32) -> u32
@@ -30,7 +25,7 @@ fn swept(rows: &[u32; 32], w: [u8; 32], n: u8, group: u32) -> u32
     let mut e: u8 = 0;
     while e < n {
         let owner = w[e as usize];
-        if owner < 32 {
+        if owner < MEMBERS_MOST {
             if meets(rows[e as usize], r) {
                 r = with(r, owner);
             }

@@ -5,7 +5,7 @@ use mathlib.Core.Logic.{⊎-elim}
 use Prim.Native.Nat.{ℕ, _+_, _-_, _≤_}
 use native.Mathlib.Omega.{arith}
 use borrow.Author.Needs.{needs}
-use Rattle.reasons.specs.Grow.{Meets}
+use Rattle.masks.specs.Masks.{Meets}
 use Rattle.reasons.proofs.Ones.{Joining, joining-start, joining-skip, joining-more, joining-done}
 use Rattle.reasons.proofs.joined.Statement.{statement}
 use Rattle.reasons.proofs.joined.Tie as tie
