@@ -18,7 +18,9 @@ use Rattle.grammar.specs.Leaf.{Leaf, leafHead}
 use Rattle.grammar.specs.Read.{got}
 use Rattle.grammar.specs.Reading.{counted, outermost}
 use Rattle.grammar.specs.Matches.{matches}
-use Rattle.element_match.specs.Contract.{ElementAt, LeafHere, LeafHit}
+use Rattle.elements.specs.Contract.{LeafHere}
+use Rattle.element_match.specs.Contract.{ElementAt, LeafHit}
+use Rattle.elements.proofs.LeafByKind as by-kind
 use Rattle.element_match.proofs.LeafTest as leaves
 use Rattle.element_match.proofs.Walks.{whole-here, here-fits, leaf-there, leaf-member}
 
@@ -65,7 +67,7 @@ module _ (t : List ℕ) (at : ℕ) (w : ElementAt t at) where
 
   module _ (q : getD t at 0 ≡ 1) where
     pub single-fits : at + 5 ≤ length t
-    single-fits = leaves.single-fits t at (leaf-here (omega arith)) q
+    single-fits = by-kind.single-fits t at (leaf-here (omega arith)) q
 
     pub single-between : Between t at (intAt t (at + 1)) (intAt t (at + 1))
     single-between e k rest r x _ =
@@ -73,7 +75,7 @@ module _ (t : List ℕ) (at : ℕ) (w : ElementAt t at) where
 
   module _ (q : getD t at 0 ≡ 2) where
     pub range-fits : at + 9 ≤ length t
-    range-fits = leaves.range-fits t at (leaf-here (omega arith)) q
+    range-fits = by-kind.range-fits t at (leaf-here (omega arith)) q
 
     pub range-between : Between t at (intAt t (at + 1)) (intAt t (at + 5))
     range-between e k rest r x _ = leaf-right (omega arith) x _ _ (leaves.range-hit t at (leaf-here (omega arith)) x _ q refl) e k rest r

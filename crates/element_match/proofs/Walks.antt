@@ -17,7 +17,8 @@ use Rattle.grammar.specs.Read.{got}
 use Rattle.grammar.specs.Reading.{counted, many, elem}
 use Rattle.grammar.proofs.ReadApart.{grouped, Got, gotLeaf, gotGroup, elem-inv, many-inv, many-none, group-at, LeafAt, singleAt, rangeAt, anyAt, leaf-at}
 use Rattle.grammar.specs.Matches.{matches, anyMatches, matchesBy}
-use Rattle.element_match.specs.Contract.{ElementAt, HitAt, LeafHere, LeafHit, Members, AnyHit, NoneHit}
+use Rattle.elements.specs.Contract.{LeafHere}
+use Rattle.element_match.specs.Contract.{ElementAt, HitAt, LeafHit, Members, AnyHit, NoneHit}
 use Rattle.element_match.specs.declared.Walk.{Walk}
 
 -- ---- the member at p

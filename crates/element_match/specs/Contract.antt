@@ -1,7 +1,6 @@
 -- What the functions say. A place is an index into the template's bytes t; what stands there is `drop place t`.
 -- ElementAt t at <-> an element template at depth 1 stands at `at`, with all that it holds
 -- HitAt t at x hit next <-> for the element template that stands at `at`: `hit` says whether it matches x, and `next` is the place after it
--- LeafHere t at <-> a leaf stands at `at`
 -- LeafHit t at x hit next <-> the same as HitAt, for a leaf
 -- Members t at n left <-> n element templates with so many depths left stand at `at`
 -- AnyHit t at n left x hit next <-> `hit` says whether at least one of them matches x, and `next` is the place after them
@@ -14,9 +13,8 @@ use Prim.Native.Nat.{ℕ, _≤_}
 use lib.ListN.{length, drop}
 use lib.IntN.{ℤ}
 use Rattle.grammar.specs.Element.{Elem, Elems}
-use Rattle.grammar.specs.Record.{leafHere, head}
 use Rattle.grammar.specs.Leaf.{Leaf, leafHead}
-use Rattle.elements.specs.Contract.{ElementHere}
+use Rattle.elements.specs.Contract.{ElementHere, LeafSays}
 use Rattle.grammar.specs.Read.{got}
 use Rattle.grammar.specs.Reading.{counted, many, elem, outermost}
 use Rattle.grammar.specs.Matches.{leafMatches, matches, anyMatches}
@@ -28,14 +26,8 @@ pub record HitAt (t : List ℕ) (at : ℕ) (x : ℤ) (hit : Bool) (next : ℕ) :
   pub inside : next ≤ length t
   pub right : (e : Elem Leaf) (k : ℕ) (rest : List ℕ) → outermost leafHead (drop at t) ≡ got (counted e k) rest → (hit ≡ matches e x) × (drop next t ≡ rest)
 
-pub record LeafHere (t : List ℕ) (at : ℕ) : Type 0 where
-  pub what : Leaf
-  pub rest : List ℕ
-  pub reads : head leafHead (drop at t) ≡ leafHere what rest
-
-pub record LeafHit (t : List ℕ) (at : ℕ) (x : ℤ) (hit : Bool) (next : ℕ) : Type 0 where
-  pub inside : next ≤ length t
-  pub right : (l : Leaf) (rest : List ℕ) → head leafHead (drop at t) ≡ leafHere l rest → (hit ≡ leafMatches l x) × (drop next t ≡ rest)
+abbrev pub LeafHit : List ℕ → ℕ → ℤ → Bool → ℕ → Type 0
+LeafHit t at x hit next = LeafSays (λ (l : Leaf). leafMatches l x) t at hit next
 
 pub record Members (t : List ℕ) (at n left : ℕ) : Type 0 where
   pub inside : at ≤ length t

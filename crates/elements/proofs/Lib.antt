@@ -2,8 +2,10 @@
 -- Records     == one record at a place: what is said of it
 -- Scans       == a scan step by step
 -- WholeInputs == the number for a whole input, from a scan of its front
+-- LeafByKind  == a leaf where it stands: its size, and what is said of it
 -- Unique      == each promise allows one result only
 pub mod Records
 pub mod Scans
 pub mod WholeInputs
+pub mod LeafByKind
 pub mod Unique

@@ -5,6 +5,8 @@
 --                      place after what was read, and `count` as countOf counts it
 -- Answered o r       <-> r is the number for the whole reading o: the refusal's, never 0; or 0 where o is accepted
 -- ElementHere t at   <-> an element template at depth 1 stands at `at`, with all that it holds
+-- LeafHere t at      <-> a leaf stands at `at`
+-- LeafSays f t at a next <-> for the leaf l that stands at `at`: a is f l, and `next` is the place after it
 -- leavesTo c         == the leaves so far; noCount a == 0, where nothing is counted
 -- Assumes nothing: these are definitions.
 use mathlib.Core.Path.{_≡_}
@@ -13,7 +15,7 @@ use mathlib.Core.List.{List, []}
 use Prim.Native.Nat.{ℕ, _≤_, _<_}
 use lib.ListN.{length, drop}
 use Rattle.grammar.specs.Element.{Elem}
-use Rattle.grammar.specs.Record.{Head, fault, leafHere, group}
+use Rattle.grammar.specs.Record.{Head, fault, leafHere, group, head}
 use Rattle.grammar.specs.Leaf.{Leaf, leafHead}
 use Rattle.grammar.specs.Read.{Read, refuse, got}
 use Rattle.grammar.specs.Reading.{Counted, counted, outermost}
@@ -43,3 +45,12 @@ pub record ElementHere (t : List ℕ) (at : ℕ) : Type 0 where
   pub leaves : ℕ
   pub rest : List ℕ
   pub reads : outermost leafHead (drop at t) ≡ got (counted what leaves) rest
+
+pub record LeafHere (t : List ℕ) (at : ℕ) : Type 0 where
+  pub what : Leaf
+  pub rest : List ℕ
+  pub reads : head leafHead (drop at t) ≡ leafHere what rest
+
+pub record LeafSays {A : Type 0} (f : Leaf → A) (t : List ℕ) (at : ℕ) (a : A) (next : ℕ) : Type 0 where
+  pub inside : next ≤ length t
+  pub right : (l : Leaf) (rest : List ℕ) → head leafHead (drop at t) ≡ leafHere l rest → (a ≡ f l) × (drop next t ≡ rest)

@@ -1,9 +1,11 @@
 // The integers that an element template matches, from its bytes.
 ghost use mathlib.Core.List.{[], _∷_};
 ghost use Rattle.ranges.specs.Spans.{span};
-ghost use Rattle.normal.specs.Contract.{LeafHere, LeafSet, Here, SetHere, Members, SetAny};
+ghost use Rattle.elements.specs.Contract.{LeafHere};
+ghost use Rattle.normal.specs.Contract.{LeafSet, Here, SetHere, Members, SetAny};
 use format::ANY_SIZE;
 use format::COMPLEMENT;
+use format::COUNT_SIZE;
 use format::GREATEST;
 use format::LEAST;
 use format::LIST;
@@ -102,12 +104,12 @@ pub fn set_of(t: &[u8], at: usize, left: usize) -> Found
     let kind = t[at];
     if kind == LIST {
         // Taken apart and made anew: handed on whole, it costs a leaf by itself a copy too.
-        let w = any_of(t, at + 2, t[at + 1] as usize, left - 1);
+        let w = any_of(t, at + COUNT_SIZE, t[at + 1] as usize, left - 1);
         let set = w.set;
         return Found { set, next: w.next };
     }
     if kind == COMPLEMENT {
-        let w = any_of(t, at + 2, t[at + 1] as usize, left - 1);
+        let w = any_of(t, at + COUNT_SIZE, t[at + 1] as usize, left - 1);
         let s = w.set;
         let set = gaps(s);
         return Found { set, next: w.next };

@@ -8,7 +8,8 @@ use mir.Syntax.{w32}
 use mir.Val.{toZ, ofZ, SFits}
 use mir.Facts.{toZ-ofZ}
 use Rattle.integers.specs.Integer.{eqZ}
-use Rattle.element_match.proofs.LeafTest.{leaf-fits, single-fits, range-fits, single-hit, range-hit, any-hit}
+use Rattle.elements.proofs.LeafByKind.{leaf-fits, single-fits, range-fits}
+use Rattle.element_match.proofs.LeafTest.{single-hit, range-hit, any-hit}
 use borrow.Author.Needs.{needs}
 use Rattle.element_match.proofs.leaf_hit.Statement.{statement}
 use Rattle.element_match.proofs.leaf_hit.Tie as tie

@@ -8,7 +8,8 @@ use lib.ListN.{length, getD}
 use Rattle.ranges.specs.Spans.{span}
 use Rattle.integers.proofs.SignedLocals.{again, again-same}
 use Rattle.integers.specs.Integer.{intAt}
-use Rattle.normal.proofs.Walks.{leaf-fits, single-fits, range-fits, single-set, range-set, any-set}
+use Rattle.elements.proofs.LeafByKind.{leaf-fits, single-fits, range-fits, single-says, range-says, any-says}
+use Rattle.forms.specs.Matched.{leafRanges}
 use Rattle.normal.proofs.walk.leaf_at.Statement.{statement}
 use Rattle.normal.proofs.walk.leaf_at.Tie as tie
 
@@ -46,7 +47,7 @@ returns c =
     let s = c .before .before .before .before in
     let x = c .int-at in
     let e : again (x .result) ≡ intAt (bytes s) (at s + 1) = again-same (x .result) (x .ok) ∙ x .ensures in
-    single-set (bytes s) (at s) (s .pre) _ (c .before .if1 .taken) (ap (λ (z : ℤ). span z z ∷ []) e)
+    single-says (bytes s) (at s) (s .pre) leafRanges _ (c .before .if1 .taken) (ap (λ (z : ℤ). span z z ∷ []) e)
 
 add-int-at-2 : tie.Need-add-int-at-2
 add-int-at-2 c = omega (arith, a-range (c .before .before .before .before) (c .if2 .taken))
@@ -70,7 +71,7 @@ returns-2 c =
     let y = c .int-at3 in
     let e : again (x .result) ≡ intAt (bytes s) (at s + 1) = again-same (x .result) (x .ok) ∙ x .ensures in
     let f : again (y .result) ≡ intAt (bytes s) (at s + 5) = again-same (y .result) (y .ok) ∙ y .ensures in
-    range-set (bytes s) (at s) (s .pre) _ (c .before .before .if2 .taken) (ap₂ (λ (a b : ℤ). span a b ∷ []) e f)
+    range-says (bytes s) (at s) (s .pre) leafRanges _ (c .before .before .if2 .taken) (ap₂ (λ (a b : ℤ). span a b ∷ []) e f)
 
 add-t12 : tie.Need-add-t12
 add-t12 c = omega (arith, fits (c .before .before .before .before))
@@ -78,7 +79,7 @@ add-t12 c = omega (arith, fits (c .before .before .before .before))
 returns-3 : tie.Need-returns-3
 returns-3 c =
     let s = c .before .before .before .before in
-    any-set (bytes s) (at s) (s .pre) _ (c .before .if1 .left) (c .if2 .left) refl
+    any-says (bytes s) (at s) (s .pre) leafRanges _ (c .before .if1 .left) (c .if2 .left) refl
 
 pub leaf-at-spec : {M : Type 1} → statement M
 leaf-at-spec =
