@@ -7,6 +7,7 @@ ghost use Rattle.masks.specs.Masks.{bit};
 ghost use Rattle.rows.specs.Rows.{picks};
 ghost use Rattle.chains.specs.Chain.{Opened, Ready, Settled, Placed, within};
 use blocks::Found;
+use format::MEMBERS_MOST;
 use masks::flip;
 use masks::has;
 use masks::lowest;
@@ -28,7 +29,7 @@ pub fn open_places(w: [u8; 32], from: u8, to: u8) -> Open
     let mut held: u32 = 0;
     let mut e = from;
     while e < to {
-        if w[e as usize] >= 32 {
+        if w[e as usize] >= MEMBERS_MOST {
             free = with(free, e);
         } else {
             held = with(held, e);

@@ -1,7 +1,10 @@
 // Does this integer match the element template that stands here.
-ghost use Rattle.element_match.specs.Contract.{ElementAt, HitAt, LeafHere, LeafHit, Members, AnyHit, NoneHit};
+ghost use Rattle.elements.specs.Contract.{LeafHere};
+ghost use Rattle.element_match.specs.Contract.{ElementAt, HitAt, LeafHit, Members, AnyHit, NoneHit};
 use format::ANY_SIZE;
 use format::COMPLEMENT;
+use format::COUNT_SIZE;
+use format::DEPTH_MOST;
 use format::LIST;
 use format::RANGE;
 use format::RANGE_SIZE;
@@ -52,9 +55,9 @@ fn any_of(t: &[u8], at: usize, n: usize, x: i32, left: usize) -> Walk
     while 0 < more {
         let kind = t[p];
         let w = if kind == LIST {
-            any_of(t, p + 2, t[p + 1] as usize, x, left - 1)
+            any_of(t, p + COUNT_SIZE, t[p + 1] as usize, x, left - 1)
         } else if kind == COMPLEMENT {
-            none_of(t, p + 2, t[p + 1] as usize, x, left - 1)
+            none_of(t, p + COUNT_SIZE, t[p + 1] as usize, x, left - 1)
         } else {
             leaf_hit(t, p, x)
         };
@@ -76,9 +79,9 @@ fn none_of(t: &[u8], at: usize, n: usize, x: i32, left: usize) -> Walk
     while 0 < more {
         let kind = t[p];
         let w = if kind == LIST {
-            any_of(t, p + 2, t[p + 1] as usize, x, left - 1)
+            any_of(t, p + COUNT_SIZE, t[p + 1] as usize, x, left - 1)
         } else if kind == COMPLEMENT {
-            none_of(t, p + 2, t[p + 1] as usize, x, left - 1)
+            none_of(t, p + COUNT_SIZE, t[p + 1] as usize, x, left - 1)
         } else {
             leaf_hit(t, p, x)
         };
@@ -96,10 +99,10 @@ pub fn match_element(t: &[u8], at: usize, x: i32) -> Walk
 {
     let kind = t[at];
     if kind == LIST {
-        return any_of(t, at + 2, t[at + 1] as usize, x, 7);
+        return any_of(t, at + COUNT_SIZE, t[at + 1] as usize, x, DEPTH_MOST - 1);
     }
     if kind == COMPLEMENT {
-        return none_of(t, at + 2, t[at + 1] as usize, x, 7);
+        return none_of(t, at + COUNT_SIZE, t[at + 1] as usize, x, DEPTH_MOST - 1);
     }
     leaf_hit(t, at, x)
 }

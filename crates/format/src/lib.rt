@@ -88,6 +88,9 @@ pub const GROUP_MOST: u8 = 64;
 
 pub const DEPTH_MOST: usize = 8;
 
+// A byte of a witness below it is a member.
+pub const MEMBERS_MOST: u8 = 32;
+
 pub const LAST_LEAF: usize = 63;
 
 pub const LAST_MEMBER: usize = 31;

@@ -8,7 +8,9 @@ ghost use Rattle.ranges.specs.Spans.{span};
 ghost use Rattle.ranges.specs.Shown.{spans};
 ghost use Rattle.forms.specs.Form.{recordOf, records, matchedForm, unmatchedForm, recordLength, recordsLength, matchedLength, unmatchedLength, sideForm, sideLength};
 use format::ANY;
+use format::ANY_SIZE;
 use format::COMPLEMENT;
+use format::COUNT_SIZE;
 use format::LIST;
 use format::RANGE;
 use format::RANGE_SIZE;
@@ -101,7 +103,7 @@ fn put_group(out: &mut [u8], kind: u8, s: Ranges)
 {
     out[0] = kind;
     out[1] = s.n as u8;
-    put_records(&mut out[2..], s);
+    put_records(&mut out[COUNT_SIZE..], s);
 }
 
 // How many bytes the form has that is written from the integers matched.
@@ -111,14 +113,14 @@ fn matched_length(s: Ranges) -> usize
 {
     let n = s.n;
     if n == 0 {
-        return 3;
+        return COUNT_SIZE + ANY_SIZE;
     }
     if n == 1 {
         let a = s.lo[0];
         let b = s.hi[0];
         return record_length(a, b);
     }
-    2 + records_length(s)
+    COUNT_SIZE + records_length(s)
 }
 
 // How many bytes the form has that is written from the integers not matched.
@@ -127,9 +129,9 @@ fn unmatched_length(s: Ranges) -> usize
     ensures { λ r. ⌜ r ≡ unmatchedLength (spans s) ⌝ }
 {
     if s.n == 0 {
-        return 1;
+        return ANY_SIZE;
     }
-    2 + records_length(s)
+    COUNT_SIZE + records_length(s)
 }
 
 // The form of no integer at all, at the front of `out`: a complement of any value.

@@ -2,6 +2,7 @@
 ghost use mathlib.Core.Path.{_≡_};
 ghost use Prim.Native.Nat.{_+_, _≤_};
 ghost use lib.ListN.{length};
+use format::TEMPLATE_SIZE;
 use intake_lines::answer_next;
 use intake_lines::open_input;
 use libc::STDIN_FILENO;
@@ -60,7 +61,7 @@ fn print_all(input: &[u8], out: &mut [u8])
         return;
     }
     let lists = head.next;
-    print_lists(&input[3..lists], input, lists, out);
+    print_lists(&input[TEMPLATE_SIZE..lists], input, lists, out);
 }
 
 fn main() {

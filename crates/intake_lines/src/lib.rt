@@ -32,7 +32,7 @@ fn refusal(input: &[u8]) -> u8
     if input.len() < end {
         return MISSING;
     }
-    scan_template(&input[3..end])
+    scan_template(&input[TEMPLATE_SIZE..end])
 }
 
 // How far a call came: how many bytes it wrote, the place of the next list, and whether there is a next turn.

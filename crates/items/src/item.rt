@@ -16,6 +16,7 @@ use crate::record::kind_at;
 use blocks::Block;
 use elements::count_fault;
 use format::BOUNDS_SIZE;
+use format::COUNT_SIZE;
 use format::DONE;
 use format::ITEMS_MOST;
 use format::PERMUTATION;
@@ -85,7 +86,7 @@ fn scan_permutation(t: &[u8], at: usize, m: usize, places: &mut [usize; 32]) -> 
     if code != DONE {
         return no_item(code);
     }
-    let g = scan_members(t, at + 2, t[at + 1] as usize, m, true, places);
+    let g = scan_members(t, at + COUNT_SIZE, t[at + 1] as usize, m, true, places);
     if g.code != DONE {
         return no_item(g.code);
     }

@@ -9,6 +9,7 @@ use blocks::Found;
 use chains::open_places;
 use chains::place;
 use chains::settle;
+use format::MEMBERS_MOST;
 use format::SPARE;
 use masks::flip;
 use masks::lesser_byte;
@@ -21,7 +22,7 @@ fn rivals(columns: &[u32; 32], to: u8, w: [u8; 32], e: u8) -> u32
     requires { ⌜ (e < to) × (to ≤ 32) ⌝ }
     ensures { λ r. ⌜ Rivals (picks (now (columns .entry))) w e to (bit r) ⌝ }
 {
-    let bound = lesser_byte(w[e as usize], 32);
+    let bound = lesser_byte(w[e as usize], MEMBERS_MOST);
     let mut found: u32 = 0;
     let mut p = e + 1;
     while p < to {
@@ -47,7 +48,7 @@ fn candidates(columns: &[u32; 32], to: u8, w: [u8; 32], e: u8) -> u32
         return all;
     }
     let holder = w[e as usize];
-    if holder >= 32 {
+    if holder >= MEMBERS_MOST {
         return all;
     }
     let open = open_places(w, e + 1, to);
@@ -81,7 +82,7 @@ fn exchange(columns: &[u32; 32], to: u8, w: [u8; 32], e: u8, m: u8) -> Found
     let mut x = w;
     x[p as usize] = SPARE;
     x[e as usize] = m;
-    if owner >= 32 {
+    if owner >= MEMBERS_MOST {
         return Found { found: true, w: x };
     }
     let served = place(columns, x, owner, e + 1, to);

@@ -12,6 +12,7 @@ use format::LIST_TOO_LONG;
 use format::MISSING;
 use format::SINGLE;
 use format::SINGLE_SIZE;
+use format::TEMPLATE_SIZE;
 use format::VALUES;
 use integers::int_at;
 
@@ -37,7 +38,7 @@ pub fn template_end(input: &[u8]) -> usize
     requires { ⌜ 3 ≤ length (now input) ⌝ }
     ensures { λ r. ⌜ r ≡ afterTemplate (now (input .entry)) ⌝ }
 {
-    3 + (input[1] as usize + input[2] as usize * 256)
+    TEMPLATE_SIZE + (input[1] as usize + input[2] as usize * 256)
 }
 
 // What was read as a list: its fault, or 0; how many integers it has; the place after it; the integers, in front. All else is 0.
@@ -68,7 +69,7 @@ fn read_integers(s: &[u8], at: usize, n: usize) -> List
         }
         let x = int_at(s, p + 1);
         xs[i] = x;
-        p += 5;
+        p += SINGLE_SIZE;
         i += 1;
     }
     List {
@@ -108,5 +109,5 @@ pub fn read_list(s: &[u8], at: usize) -> List
             xs: [0i32; 32],
         };
     }
-    read_integers(s, at + 2, s[at + 1] as usize)
+    read_integers(s, at + COUNT_SIZE, s[at + 1] as usize)
 }

@@ -5,6 +5,7 @@ ghost use Prim.Native.Nat.{_≤_};
 ghost use lib.ListN.{length};
 ghost use Rattle.suffixes.specs.Suffixes.{entry, Written};
 use crate::Suffix;
+use format::LIST_MOST;
 use format::SPARE;
 
 const WIDTH: usize = 33;
@@ -19,7 +20,7 @@ pub fn read(t: &[u8; 1089], p: usize) -> Suffix
     let start = WIDTH * p + 1;
     let mut w = [SPARE; 32];
     let mut i = 0;
-    while i < 32 {
+    while i < LIST_MOST {
         w[i] = t[start + i];
         i += 1;
     }
@@ -37,7 +38,7 @@ pub fn write(t: &mut [u8; 1089], p: usize, s: Suffix)
     let start = WIDTH * p + 1;
     let w = s.w;
     let mut i = 0;
-    while i < 32 {
+    while i < LIST_MOST {
         t[start + i] = w[i];
         i += 1;
     }

@@ -11,6 +11,8 @@ ghost use Rattle.items.specs.Notes.{Noted};
 use blocks::Block;
 use elements::count_fault;
 use format::BAD_KIND;
+use format::BOUNDS_SIZE;
+use format::COUNT_SIZE;
 use format::DONE;
 use format::INFINITY;
 use format::ITEMS_MOST;
@@ -192,7 +194,7 @@ fn scan_body(t: &[u8], at: usize, attribute: Length, places: &mut [usize; 32]) -
     if length_clashes(attribute, kind, n) {
         return no_outline(LENGTH_CLASH);
     }
-    scan_contents(t, at + 2, kind, n as usize, attribute, places)
+    scan_contents(t, at + COUNT_SIZE, kind, n as usize, attribute, places)
 }
 
 // The template at the front of t.
@@ -218,7 +220,7 @@ pub fn scan_front(t: &[u8], places: &mut [usize; 32]) -> Outline
     }
     scan_body(
         t,
-        3,
+        BOUNDS_SIZE,
         Length {
             given: true,
             min: t[1],

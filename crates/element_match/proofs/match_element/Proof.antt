@@ -33,6 +33,9 @@ shared-slice-read-any-of c =
 cast-any-of : tie.Need-cast-any-of
 cast-any-of c = omega (arith, c .shared-slice-known3 .given (c .before .before .before .before .args .at + 1))
 
+sub-any-of : tie.Need-sub-any-of
+sub-any-of c = search needs
+
 any-of-requires : tie.Need-any-of-requires
 any-of-requires c κs =
     let a = c .before .before .before .before .args in
@@ -58,6 +61,9 @@ shared-slice-read-none-of c =
 
 cast-none-of : tie.Need-cast-none-of
 cast-none-of c = omega (arith, c .shared-slice-known4 .given (c .before .before .before .before .before .args .at + 1))
+
+sub-none-of : tie.Need-sub-none-of
+sub-none-of c = search needs
 
 none-of-requires : tie.Need-none-of-requires
 none-of-requires c κs =
@@ -88,12 +94,14 @@ match-element-spec =
     add-any-of-2
     shared-slice-read-any-of
     cast-any-of
+    sub-any-of
     any-of-requires
     returns
     add-none-of
     add-none-of-2
     shared-slice-read-none-of
     cast-none-of
+    sub-none-of
     none-of-requires
     returns-2
     leaf-hit-requires

@@ -32,6 +32,9 @@ alone c e =
     let q : length (s .hi) ≡ 130 = search needs in
     view-one (s .n) (s .lo) (s .hi) e (omega arith) (omega arith)
 
+add-result : tie.Need-add-result
+add-result c = search needs
+
 returns : tie.Need-returns
 returns c =
     let s = c .before .args .t1 in
@@ -58,8 +61,8 @@ returns-2 c =
 records-length-requires : tie.Need-records-length-requires
 records-length-requires c κs = search needs
 
-add-result : tie.Need-add-result
-add-result c =
+add-result-2 : tie.Need-add-result-2
+add-result-2 c =
     let s = c .before .before .before in
     omega (arith, c .records-length .ensures, recordsLength-most (spans (s .args .t1)), size s)
 
@@ -72,11 +75,12 @@ pub matched-length-spec : {M : Type 1} → statement M
 matched-length-spec =
     tie.close
     (tie.spec
+    add-result
     returns
     element-copy-out-a
     element-copy-out-b
     record-length-requires
     returns-2
     records-length-requires
-    add-result
+    add-result-2
     returns-3)
