@@ -4,20 +4,20 @@ use mathlib.Core.Path.{_≡_, refl, sym, ap, _∙_, subst}
 use mathlib.Core.Bool.{Bool, true, false, not, _||_, _&&_, or-assoc, cond, Bool·not-not}
 use mathlib.Core.List.{List}
 use Prim.Native.Nat.{ℕ, _+_, _-_, _≤_, _<_}
-use native.Mathlib.Omega.{arith}
 use lib.IntN.{ℤ}
 use lib.ListN.{length, getD, drop}
 use mir.Syntax.{w32}
 use mir.Val.{toZ, ofZ, SFits}
 use mir.Facts.{toZ-ofZ}
 use Rattle.grammar.specs.Element.{Elem, Elems}
-use Rattle.grammar.specs.Record.{leafHere, head}
 use Rattle.grammar.specs.Leaf.{Leaf, leafHead}
 use Rattle.grammar.specs.Read.{got}
 use Rattle.grammar.specs.Reading.{counted, many, elem}
-use Rattle.grammar.proofs.ReadApart.{grouped, Got, gotLeaf, gotGroup, elem-inv, many-inv, many-none, group-at, LeafAt, singleAt, rangeAt, anyAt, leaf-at}
+use Rattle.grammar.proofs.ReadApart.{grouped, many-inv, many-none}
 use Rattle.grammar.specs.Matches.{matches, anyMatches, matchesBy}
 use Rattle.elements.specs.Contract.{LeafHere}
+use Rattle.elements.proofs.ElementByKind.{AGroup}
+use Rattle.elements.proofs.ElementByKind as by-kind
 use Rattle.element_match.specs.Contract.{ElementAt, HitAt, LeafHit, Members, AnyHit, NoneHit}
 use Rattle.element_match.specs.declared.Walk.{Walk}
 
@@ -36,89 +36,47 @@ pub record MemberHit (t : List ℕ) (p left : ℕ) (x : ℤ) (hit : Bool) (next 
   pub inside : next ≤ length t
   pub right : (k : ℕ) (e : Elem Leaf) (k′ : ℕ) (s′ : List ℕ) → elem leafHead left k (drop p t) ≡ got (counted e k′) s′ → (hit ≡ matches e x) × (drop next t ≡ s′)
 
--- a leaf's kind is no list's and no complement's
-leaf-kind : (t : List ℕ) (p : ℕ) (l : Leaf) (s′ : List ℕ) → head leafHead (drop p t) ≡ leafHere l s′ → (p + 1 ≤ length t) × (getD t p 0 ≤ 3)
-leaf-kind t p l s′ r = go (leaf-at t p l s′ r)
-  where
-    go : LeafAt t p l s′ → (p + 1 ≤ length t) × (getD t p 0 ≤ 3)
-    go (singleAt k i e q) = omega arith
-    go (rangeAt k i o e q) = omega arith
-    go (anyAt k i e q) = omega arith
-
-abbrev kindOfGroup : Bool → ℕ
-kindOfGroup c = cond c 5 4
-
-four-or-five : (c : Bool) → (4 ≤ kindOfGroup c) × (kindOfGroup c ≤ 5)
-four-or-five true = omega arith
-four-or-five false = omega arith
-
-same-kind : (c d : Bool) → kindOfGroup c ≡ kindOfGroup d → c ≡ d
-same-kind true true e = refl
-same-kind true false e = absurd (omega arith)
-same-kind false true e = absurd (omega arith)
-same-kind false false e = refl
-
-neither : (t : List ℕ) (p : ℕ) → (getD t p 0 ≡ 4 → ⊥) → (getD t p 0 ≡ 5 → ⊥) → (c : Bool) → getD t p 0 ≡ kindOfGroup c → ⊥
-neither t p n4 n5 false e = n4 e
-neither t p n4 n5 true e = n5 e
-
 module _ (t : List ℕ) (p left : ℕ) (w : Here t p left) where
-  got-here : Got leafHead left (w .k) (drop p t) (w .e) (w .k′) (w .s′)
-  got-here = elem-inv leafHead left (w .k) (drop p t) (w .e) (w .k′) (w .s′) (w .reads)
-
   pub here-fits : p + 1 ≤ length t
-  here-fits = go got-here
-    where
-      go : Got leafHead left (w .k) (drop p t) (w .e) (w .k′) (w .s′) → p + 1 ≤ length t
-      go (gotLeaf l d q e b f) = leaf-kind t p l (w .s′) q .0
-      go (gotGroup c m inner es d q r f) = omega (arith, group-at t p c m inner q .fits)
+  here-fits = by-kind.here-fits t p left (w .k) (w .e) (w .k′) (w .s′) (w .reads)
 
-  module _ (c : Bool) (e : getD t p 0 ≡ kindOfGroup c) where
+  module _ (c : Bool) (e : getD t p 0 ≡ cond c 5 4) where
+    group : AGroup t p left (w .k) c (w .e) (w .k′) (w .s′)
+    group = by-kind.by-group t p left (w .k) (w .e) (w .k′) (w .s′) (w .reads) c e
+
     pub group-fits : (p + 2 ≤ length t) × (0 < left)
-    group-fits = go got-here
-      where
-        go : Got leafHead left (w .k) (drop p t) (w .e) (w .k′) (w .s′) → (p + 2 ≤ length t) × (0 < left)
-        go (gotLeaf l d q e′ b f) = absurd (omega (arith, leaf-kind t p l (w .s′) q, four-or-five c))
-        go (gotGroup c′ m inner es d q r f) = (group-at t p c′ m inner q .fits, d)
+    group-fits = (group .fits, group .deep)
 
     pub group-members : Members t (p + 2) (getD t (p + 1) 0) (left - 1)
-    group-members = go got-here
-      where
-        go : Got leafHead left (w .k) (drop p t) (w .e) (w .k′) (w .s′) → Members t (p + 2) (getD t (p + 1) 0) (left - 1)
-        go (gotLeaf l d q e′ b f) = absurd (omega (arith, leaf-kind t p l (w .s′) q, four-or-five c))
-        go (gotGroup c′ m inner es d q r f) =
-            let g = group-at t p c′ m inner q in
-            record { inside = g .fits; leaves = w .k; found = es; after = w .k′; rest = w .s′; reads = rw (sym (g .count), sym (g .after)) r }
+    group-members = record { inside = group .fits; leaves = w .k; found = group .es; after = w .k′; rest = w .s′; reads = group .reads }
 
   pub leaf-there : (getD t p 0 ≡ 4 → ⊥) → (getD t p 0 ≡ 5 → ⊥) → LeafHere t p
-  leaf-there n4 n5 = go got-here
-    where
-      go : Got leafHead left (w .k) (drop p t) (w .e) (w .k′) (w .s′) → LeafHere t p
-      go (gotLeaf l d q e b f) = record { what = l; rest = w .s′; reads = q }
-      go (gotGroup c m inner es d q r f) = absurd (neither t p n4 n5 c (group-at t p c m inner q .kind))
+  leaf-there n4 n5 =
+      let a = by-kind.by-leaf t p left (w .k) (w .e) (w .k′) (w .s′) (w .reads) n4 n5 in
+      record { what = a .l; rest = w .s′; reads = a .reads }
 
 module _ (t : List ℕ) (p left : ℕ) (x : ℤ) (hit : Bool) (next : ℕ) where
   pub leaf-member : (getD t p 0 ≡ 4 → ⊥) → (getD t p 0 ≡ 5 → ⊥) → LeafHit t p x hit next → MemberHit t p left x hit next
   unfolding matchesBy
-  leaf-member n4 n5 h = record { inside = h .inside; right = λ k e k′ s′ r. go k e k′ s′ (elem-inv leafHead left k (drop p t) e k′ s′ r) }
-    where
-      go : (k : ℕ) (e : Elem Leaf) (k′ : ℕ) (s′ : List ℕ) → Got leafHead left k (drop p t) e k′ s′ → (hit ≡ matches e x) × (drop next t ≡ s′)
-      go k e k′ s′ (gotLeaf l d q f b g) = let v = h .right l s′ q in (v .0 ∙ sym (ap (λ o. matches o x) f), v .1)
-      go k e k′ s′ (gotGroup c m inner es d q r f) = absurd (neither t p n4 n5 c (group-at t p c m inner q .kind))
+  leaf-member n4 n5 h = record {
+    inside = h .inside;
+    right = λ k e k′ s′ r.
+        let a = by-kind.by-leaf t p left k e k′ s′ r n4 n5 in
+        let v = h .right (a .l) s′ (a .reads) in
+        (v .0 ∙ sym (ap (λ o. matches o x) (a .is)), v .1);
+  }
 
   -- a list or a complement, by what is known of its members
-  group-member : (c : Bool) → getD t p 0 ≡ kindOfGroup c → next ≤ length t
+  group-member : (c : Bool) → getD t p 0 ≡ cond c 5 4 → next ≤ length t
       → ((k : ℕ) (es : Elems Leaf) (a : ℕ) (rest : List ℕ) → many (elem leafHead (left - 1)) (getD t (p + 1) 0) k (drop (p + 2) t) ≡ got (counted es a) rest → (hit ≡ matches (grouped c es) x) × (drop next t ≡ rest))
       → MemberHit t p left x hit next
-  group-member c e i h = record { inside = i; right = λ k v k′ s′ r. go k v k′ s′ (elem-inv leafHead left k (drop p t) v k′ s′ r) }
-    where
-      go : (k : ℕ) (v : Elem Leaf) (k′ : ℕ) (s′ : List ℕ) → Got leafHead left k (drop p t) v k′ s′ → (hit ≡ matches v x) × (drop next t ≡ s′)
-      go k v k′ s′ (gotLeaf l d q f b g) = absurd (omega (arith, leaf-kind t p l s′ q, four-or-five c))
-      go k v k′ s′ (gotGroup c′ m inner es d q r f) =
-          let g = group-at t p c′ m inner q in
-          let y = h k es k′ s′ (rw (sym (g .count), sym (g .after)) r) in
-          let u = same-kind c c′ (sym e ∙ g .kind) in
-          (y .0 ∙ ap (λ b. matches (grouped b es) x) u ∙ ap (λ o. matches o x) (sym f), y .1)
+  group-member c e i h = record {
+    inside = i;
+    right = λ k v k′ s′ r.
+        let g = by-kind.by-group t p left k v k′ s′ r c e in
+        let y = h k (g .es) k′ s′ (g .reads) in
+        (y .0 ∙ ap (λ o. matches o x) (sym (g .is)), y .1);
+  }
 
   pub list-member : getD t p 0 ≡ 4 → AnyHit t (p + 2) (getD t (p + 1) 0) (left - 1) x hit next → MemberHit t p left x hit next
   unfolding matchesBy
