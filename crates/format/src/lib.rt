@@ -1,4 +1,6 @@
-// Every kind of record, every number given back and every limit of document 01, once. There is no function here.
+// Every kind of record, every number given back and every limit of document 01, once; and the test of the two bounds of a 20 or a 30.
+ghost use mathlib.Core.Path.{_≡_};
+ghost use Rattle.format.specs.Bounds.{badBounds};
 
 // ---- kinds of records: element templates, bodies, items, the length attribute
 pub const SINGLE: u8 = 0x01;
@@ -104,3 +106,10 @@ pub const SPARE: u8 = 255;
 pub const LEAST: i32 = -2147483648;
 
 pub const GREATEST: i32 = 2147483647;
+
+// Whether min or max of a 20 or a 30 is outside its range, or min is above max.
+pub fn bad_bounds(min: u8, max: u8) -> bool
+    ensures { λ r. ⌜ r ≡ badBounds min max ⌝ }
+{
+    (LENGTH_MOST < min) | (((LENGTH_MOST < max) & (max != INFINITY)) | (max < min))
+}

@@ -14,7 +14,8 @@ use lib.ListN.{length, getD, drop}
 use Rattle.integers.specs.Integer.{intAt}
 use Rattle.grammar.specs.Element.{Elem, Elems, leaf}
 use Rattle.grammar.specs.Template.{Star, noStar, star, Group, grouped, Item, one, permutation, recordOf, setOf, superset, subset, Length, anyLength, between, Template, template, membersOfGroup, membersOfItem}
-use Rattle.grammar.specs.Record.{Head, fault, leafHere, group, kindOf, outside, badBounds, countFault, boundsFault, faultOr, groupHead, head}
+use Rattle.format.specs.Bounds.{badBounds}
+use Rattle.grammar.specs.Record.{Head, fault, leafHere, group, kindOf, outside, countFault, boundsFault, faultOr, groupHead, head}
 use Rattle.grammar.specs.Leaf.{Leaf, single, range, any, singleHead, rangeHead, leafHead}
 use Rattle.grammar.specs.Read.{Read, refuse, got, orRefuse, refuseOr, ended, mapRead}
 use Rattle.grammar.specs.Reading.{Counted, counted, uncounted, putFirst, thenMore, many, closed, tooDeep, opened, elem, outermost}

@@ -10,7 +10,8 @@ use lib.ListN.{length, getD, drop, length-drop}
 use lib.Seq.{getD-drop, drop-drop}
 use Rattle.facts.proofs.Cases.{by-test}
 use Rattle.grammar.specs.Template.{Star, noStar, star, one, permutation}
-use Rattle.grammar.specs.Record.{Head, fault, leafHere, group, kindOf, badBounds, countFault, boundsFault, head}
+use Rattle.format.specs.Bounds.{badBounds}
+use Rattle.grammar.specs.Record.{Head, fault, leafHere, group, kindOf, countFault, boundsFault, head}
 use Rattle.grammar.specs.Read.{refuse, got, orRefuse, refuseOr, mapRead}
 use Rattle.grammar.specs.Reading.{uncounted, outermost}
 use Rattle.grammar.specs.Whole.{asSpares, starHere, numbered, member, members, permutationHere, item}

@@ -2,25 +2,18 @@
 ghost use mathlib.Core.Path.{_≡_};
 ghost use Prim.Native.Nat.{_≤_};
 ghost use lib.ListN.{length, drop};
-ghost use Rattle.grammar.specs.Record.{kindOf, badBounds, boundsFault};
+ghost use Rattle.grammar.specs.Record.{kindOf, boundsFault};
 use format::BAD_BOUNDS;
 use format::BOUNDS_SIZE;
 use format::DONE;
-use format::INFINITY;
-use format::LENGTH_MOST;
 use format::MISSING;
+use format::bad_bounds;
 
 // The kind at `at`, or 0, which is no kind, where the bytes end.
 pub fn kind_at(t: &[u8], at: usize) -> u8
     ensures { λ r. ⌜ r ≡ kindOf (drop at (now (t .entry))) ⌝ }
 {
     if at < t.len() { t[at] } else { 0 }
-}
-
-fn bad_bounds(min: u8, max: u8) -> bool
-    ensures { λ r. ⌜ r ≡ badBounds min max ⌝ }
-{
-    (LENGTH_MOST < min) | (((LENGTH_MOST < max) & (max != INFINITY)) | (max < min))
 }
 
 // The fault of the record at `at`, whose body is min and max.

@@ -6,7 +6,7 @@ use Rattle.items.proofs.record.bounds_fault.Statement.{statement}
 use Rattle.items.proofs.record.bounds_fault.Tie as tie
 use Rattle.items.proofs.record.bounds_fault.Reads as reads
 use Rattle.items.proofs.record.bounds_fault.Lts as lts
-use Rattle.items.proofs.record.bad_bounds.Reads as bad-bounds-reads
+use Rattle.format.proofs.bad_bounds.Reads as bad-bounds-reads
 
 sub-if1 : tie.Need-sub-if1
 sub-if1 c = search needs

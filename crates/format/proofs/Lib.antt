@@ -1,0 +1,3 @@
+-- What other crates cite.
+-- Unique == the promise allows one result only
+pub mod Unique
