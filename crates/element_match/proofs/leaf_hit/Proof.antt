@@ -1,4 +1,4 @@
--- `element::leaf_hit` meets its contract: the kind says which leaf it is. Assumes nothing.
+-- `element_match::leaf_hit` meets its contract: the kind says which leaf it is. Assumes nothing.
 use mathlib.Core.Path.{_≡_, _∙_}
 use mathlib.Core.Bool.{Bool, _&&_}
 use native.Mathlib.Omega.{arith}

@@ -1,4 +1,4 @@
--- `element::match_element` meets its contract: the outermost record says which walk it is. Assumes nothing.
+-- `element_match::match_element` meets its contract: the outermost record says which walk it is. Assumes nothing.
 use mathlib.Core.Bool.{true, false}
 use Prim.Native.Nat.{_+_}
 use native.Mathlib.Omega.{arith}

@@ -1,4 +1,4 @@
--- `template::count_fault` meets its contract: each test of the code is the next test of `countFault`. Assumes nothing.
+-- `elements::count_fault` meets its contract: each test of the code is the next test of `countFault`. Assumes nothing.
 use Rattle.grammar.proofs.RecordParts.{count-short, count-low, count-high, count-right}
 -- `template::count_fault` meets its contract: each test of the code is the next test of `countFault`. Assumes nothing.
 use borrow.Author.Needs.{needs}

@@ -1,4 +1,4 @@
--- `template::group_at` meets its contract: the fault is that of the count, and without one the parts follow. Assumes nothing.
+-- `elements::group_at` meets its contract: the fault is that of the count, and without one the parts follow. Assumes nothing.
 use mathlib.Core.Path.{sym, _∙_}
 use native.Mathlib.Omega.{arith}
 use Rattle.grammar.proofs.RecordParts.{count-inv}

@@ -1,4 +1,4 @@
--- `template::head_at` meets its contract: the kind says which record it is. Assumes nothing.
+-- `elements::head_at` meets its contract: the kind says which record it is. Assumes nothing.
 use mathlib.Core.Bool.{true, false}
 use native.Mathlib.Omega.{arith}
 use Rattle.elements.specs.Contract.{faulty}

@@ -1,4 +1,4 @@
--- `template::leaf_at` meets its contract: each test of the code is the next test of `leafHead`. Assumes nothing.
+-- `elements::leaf_at` meets its contract: each test of the code is the next test of `leafHead`. Assumes nothing.
 use mathlib.Core.Path.{_≡_}
 use mathlib.Core.Bool.{Bool}
 use lib.IntN.{ℤ}

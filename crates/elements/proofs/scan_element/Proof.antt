@@ -1,4 +1,4 @@
--- `template::scan_element` meets its contract. Assumes nothing.
+-- `elements::scan_element` meets its contract. Assumes nothing.
 use Rattle.grammar.specs.Leaf.{leafHead}
 use Rattle.grammar.specs.Reading.{uncounted, outermost, readElement}
 use Rattle.elements.proofs.WholeInputs.{too-long, answer-refused, answer-left-over, answer-accepted, uncounted-scanned}

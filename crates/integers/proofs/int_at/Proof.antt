@@ -1,4 +1,4 @@
--- `words::int_at` meets its contract: the bits are joined and then read with their sign. Assumes nothing.
+-- `integers::int_at` meets its contract: the bits are joined and then read with their sign. Assumes nothing.
 use mathlib.Core.Path.{_≡_, refl, sym, ap, _∙_}
 use mir.Syntax.{w32}
 use mir.Facts.{toZ-ofZ}

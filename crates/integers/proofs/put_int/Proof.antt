@@ -1,4 +1,4 @@
--- `words::put_int` meets its contract: four stores at the front leave the four bytes and what was after them. Assumes nothing.
+-- `integers::put_int` meets its contract: four stores at the front leave the four bytes and what was after them. Assumes nothing.
 use borrow.Author.Needs.{needs}
 use native.Mathlib.Omega.{arith}
 use Prim.Native.Nat.{ℕ, _≤_}

@@ -1,4 +1,4 @@
--- `words::same` meets its contract: the bits are equal exactly where the numbers are. Assumes nothing.
+-- `integers::same` meets its contract: the bits are equal exactly where the numbers are. Assumes nothing.
 use mathlib.Core.Path.{_≡_, refl}
 use Prim.Native.Nat.{suc, _-_, _^_}
 use native.Mathlib.Omega.{arith}

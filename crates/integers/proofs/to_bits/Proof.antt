@@ -1,4 +1,4 @@
--- `words::to_bits` meets its contract: a number below 0 is first moved up by 2 ^ 31, so that the cast keeps it. Assumes nothing.
+-- `integers::to_bits` meets its contract: a number below 0 is first moved up by 2 ^ 31, so that the cast keeps it. Assumes nothing.
 use Prim.Native.Nat.{ℕ, suc, _+_, _<_}
 use native.Mathlib.Omega.{arith}
 use mathlib.Core.Path.{_≡_, refl, sym, ap, _∙_}

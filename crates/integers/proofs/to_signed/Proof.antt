@@ -1,4 +1,4 @@
--- `words::to_signed` meets its contract: both casts are of numbers below 2 ^ 31. Assumes nothing.
+-- `integers::to_signed` meets its contract: both casts are of numbers below 2 ^ 31. Assumes nothing.
 use borrow.Author.Needs.{needs}
 use native.Mathlib.Omega.{arith}
 use mathlib.Core.Path.{_≡_, refl, sym, ap, _∙_}

@@ -1,4 +1,4 @@
--- `plan::mark` meets its contract: the kind says which leaf stands there, and the leaf's bounds say whose rows it marks. Assumes nothing.
+-- `member_rows::mark` meets its contract: the kind says which leaf stands there, and the leaf's bounds say whose rows it marks. Assumes nothing.
 use mathlib.Core.Path.{refl}
 use native.Mathlib.Omega.{arith}
 use Rattle.element_match.proofs.LeafBounds.{kind-fits, single-fits, single-between, range-fits, range-between, any-between}

@@ -1,4 +1,4 @@
--- `plan::mark_tested` meets its contract. The loop: the member stands in the rows below e of the elements that it matches, and the other rows
+-- `member_rows::mark_tested` meets its contract. The loop: the member stands in the rows below e of the elements that it matches, and the other rows
 -- are as they were. The measure is the number of elements left. Assumes nothing.
 use mathlib.Core.Path.{_≡_, refl, sym, subst}
 use mathlib.Core.Logic.{⊎-elim}

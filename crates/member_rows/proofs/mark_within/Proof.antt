@@ -1,4 +1,4 @@
--- `plan::mark_within` meets its contract. The loop: the member stands in the rows below e of the elements between the bounds, and the other
+-- `member_rows::mark_within` meets its contract. The loop: the member stands in the rows below e of the elements between the bounds, and the other
 -- rows are as they were. The measure is the number of elements left. Assumes nothing.
 use mathlib.Core.Path.{_≡_, refl, sym, subst}
 use mathlib.Core.Logic.{⊎-elim}

@@ -1,4 +1,4 @@
--- `plan::plan_of` meets its contract: the plan is what the scan noted. Assumes nothing.
+-- `member_rows::plan_of` meets its contract: the plan is what the scan noted. Assumes nothing.
 use Rattle.member_rows.proofs.PlanFromLayout.{planned}
 use borrow.Author.Needs.{needs}
 use Rattle.member_rows.proofs.plan_of.Statement.{statement}

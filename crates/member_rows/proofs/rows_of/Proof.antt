@@ -1,4 +1,4 @@
--- `plan::rows_of` meets its contract. The loop: the members below m stand in the rows of the elements that they match, and no other member
+-- `member_rows::rows_of` meets its contract. The loop: the members below m stand in the rows of the elements that they match, and no other member
 -- in any. The measure is the number of members left. Assumes nothing.
 use mathlib.Core.Path.{_≡_}
 use mathlib.Core.List.{List}

@@ -1,4 +1,4 @@
--- `columns::choices` meets its contract. Assumes nothing.
+-- `rows::choices` meets its contract. Assumes nothing.
 use borrow.Author.Needs.{needs}
 use Rattle.rows.proofs.Rows.{row-picks}
 use Rattle.rows.proofs.choices.Statement.{statement}

@@ -1,4 +1,4 @@
--- `columns::may_pick` meets its contract. Assumes nothing.
+-- `rows::may_pick` meets its contract. Assumes nothing.
 use mathlib.Core.Path.{_∙_}
 use borrow.Author.Needs.{needs}
 use Rattle.rows.proofs.Rows.{row-picks}

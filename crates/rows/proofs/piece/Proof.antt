@@ -1,4 +1,4 @@
--- `columns::piece` meets its contract. The invariant: the rows before e are those of the piece, the others are empty. The measure is how many
+-- `rows::piece` meets its contract. The invariant: the rows before e are those of the piece, the others are empty. The measure is how many
 -- elements are left. Assumes nothing.
 use mathlib.Core.Path.{_≡_}
 use Prim.Native.Nat.{_-_, _≤_}

@@ -1,4 +1,4 @@
--- `columns::turned` meets its contract: the piece, transposed. Assumes nothing.
+-- `rows::turned` meets its contract: the piece, transposed. Assumes nothing.
 use Rattle.rows.proofs.PieceRows.{piece-within, piece-turned}
 use borrow.Author.Needs.{needs}
 use Rattle.rows.proofs.turned.Statement.{statement}

@@ -1,4 +1,4 @@
--- `columns::width` meets its contract: by the tests. Assumes nothing.
+-- `rows::width` meets its contract: by the tests. Assumes nothing.
 use mathlib.Core.Path.{refl}
 use mathlib.Core.Logic.{inl, inr, ⊎-elim}
 use Prim.Native.Nat.{_≤_}

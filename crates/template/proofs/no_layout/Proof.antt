@@ -1,4 +1,4 @@
--- `template::whole::no_layout` meets its contract: no block stands in any place. Assumes nothing.
+-- `template::no_layout` meets its contract: no block stands in any place. Assumes nothing.
 
 use borrow.Author.Needs.{needs}
 use Rattle.template.proofs.no_layout.Statement.{statement}

@@ -1,4 +1,4 @@
--- `template::whole::read_template` meets its contract: 2 before everything, 10 after everything. Assumes nothing.
+-- `template::read_template` meets its contract: 2 before everything, 10 after everything. Assumes nothing.
 use native.Mathlib.Omega.{arith}
 use Rattle.grammar.specs.Whole.{readTemplate}
 use Rattle.elements.proofs.WholeInputs.{too-long, answer-refused, answer-left-over}

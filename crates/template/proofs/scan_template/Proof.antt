@@ -1,4 +1,4 @@
--- `template::whole::scan_template` meets its contract: the number is the layout's. Assumes nothing.
+-- `template::scan_template` meets its contract: the number is the layout's. Assumes nothing.
 use Rattle.template.proofs.Bodies.{layout-answered}
 use borrow.Author.Needs.{needs}
 use Rattle.template.proofs.scan_template.Statement.{statement}

@@ -1,4 +1,4 @@
--- `template::whole::scan_member` meets its contract: a 33rd member is found at its first record, after that record's own faults; any other
+-- `items::group::scan_member` meets its contract: a 33rd member is found at its first record, after that record's own faults; any other
 -- is read where its place was noted. Assumes nothing.
 use mathlib.Core.Path.{_∙_}
 use native.Mathlib.Omega.{arith}

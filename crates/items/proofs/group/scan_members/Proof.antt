@@ -1,4 +1,4 @@
--- `template::whole::scan_members` meets its contract. The loop: what the items from here on give, with the members, the 20 and the places so
+-- `items::group::scan_members` meets its contract. The loop: what the items from here on give, with the members, the 20 and the places so
 -- far, is what all of them give. The measure is the number of items left. Assumes nothing.
 use native.Mathlib.Omega.{arith}
 use Rattle.items.proofs.Groups.{Going, go-start, go-stop, go-step, go-end}

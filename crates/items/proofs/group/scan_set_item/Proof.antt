@@ -1,4 +1,4 @@
--- `template::whole::scan_set_item` meets its contract: the kind and the place say whether it is a 20 or a member. Assumes nothing.
+-- `items::group::scan_set_item` meets its contract: the kind and the place say whether it is a 20 or a member. Assumes nothing.
 use mathlib.Core.Path.{refl, sym, ap, _∙_}
 use mathlib.Core.Bool.{_&&_}
 use Prim.Native.Nat.{ℕ}

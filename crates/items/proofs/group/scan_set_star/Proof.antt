@@ -1,4 +1,4 @@
--- `template::whole::scan_set_star` meets its contract: its own faults come first, then a second 20. Assumes nothing.
+-- `items::group::scan_set_star` meets its contract: its own faults come first, then a second 20. Assumes nothing.
 use native.Mathlib.Omega.{arith}
 use Rattle.items.proofs.Groups.{star-told, set-star-stopped, set-star-right}
 use borrow.Author.Needs.{needs}

@@ -1,4 +1,4 @@
--- `template::scan_star` meets its contract: its own faults come first, then a second 20. Assumes nothing.
+-- `items::group::scan_star` meets its contract: its own faults come first, then a second 20. Assumes nothing.
 use Rattle.items.proofs.ItemRecords.{star-fault, star-again, star-right}
 use borrow.Author.Needs.{needs}
 use Rattle.items.proofs.group.scan_star.Statement.{statement}

@@ -1,4 +1,4 @@
--- `template::whole::scan_item` meets its contract: the kind says which item it is. Assumes nothing.
+-- `items::item::scan_item` meets its contract: the kind says which item it is. Assumes nothing.
 use Rattle.grammar.specs.Template.{one}
 use Rattle.grammar.specs.Leaf.{leafHead}
 use Rattle.items.proofs.ItemRecords.{item-spares, item-permutation, item-member}

@@ -1,4 +1,4 @@
--- `template::whole::scan_permutation` meets its contract: its own faults come first, then its items, which are one block. Assumes nothing.
+-- `items::item::scan_permutation` meets its contract: its own faults come first, then its items, which are one block. Assumes nothing.
 use mathlib.Core.Path.{sym, _∙_}
 use Prim.Native.Nat.{_+_}
 use native.Mathlib.Omega.{arith}

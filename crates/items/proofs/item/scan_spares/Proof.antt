@@ -1,4 +1,4 @@
--- `template::whole::scan_spares` meets its contract: the 20 has a block of no members. Assumes nothing.
+-- `items::item::scan_spares` meets its contract: the 20 has a block of no members. Assumes nothing.
 use native.Mathlib.Omega.{arith}
 use Rattle.items.proofs.Groups.{star-told}
 use Rattle.items.proofs.Items.{spares-stopped, spares-right}

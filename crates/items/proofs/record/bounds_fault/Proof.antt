@@ -1,4 +1,4 @@
--- `template::bounds_fault` meets its contract: each test of the code is the next test of `boundsFault`. Assumes nothing.
+-- `items::record::bounds_fault` meets its contract: each test of the code is the next test of `boundsFault`. Assumes nothing.
 use mathlib.Core.Path.{sym, _∙_}
 use Rattle.items.proofs.ItemRecords.{bounds-short, bounds-bad, bounds-right}
 use borrow.Author.Needs.{needs}

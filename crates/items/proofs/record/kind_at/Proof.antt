@@ -1,4 +1,4 @@
--- `template::kind_at` meets its contract: past the end nothing is left. Assumes nothing.
+-- `items::record::kind_at` meets its contract: past the end nothing is left. Assumes nothing.
 use mathlib.Core.Path.{_≡_, sym, ap, _∙_}
 use mathlib.Core.List.{List}
 use Prim.Native.Nat.{ℕ}

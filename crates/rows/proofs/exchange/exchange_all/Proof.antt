@@ -1,4 +1,4 @@
--- `columns::exchange::exchange_all` meets its contract. The invariant: the rows before k, which are whole blocks of 2 j rows, are exchanged; the others are as
+-- `rows::exchange::exchange_all` meets its contract. The invariant: the rows before k, which are whole blocks of 2 j rows, are exchanged; the others are as
 -- they were. The measure is how many rows are left. Assumes nothing.
 use mathlib.Core.Path.{_≡_}
 use Prim.Native.Nat.{_+_, _-_, _*_, _%_, _≤_}

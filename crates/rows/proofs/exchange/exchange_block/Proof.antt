@@ -1,4 +1,4 @@
--- `columns::exchange::exchange_block` meets its contract. The invariant: the rows before i, and those j rows on, are exchanged with each other; the others are as
+-- `rows::exchange::exchange_block` meets its contract. The invariant: the rows before i, and those j rows on, are exchanged with each other; the others are as
 -- they were. The measure is how many pairs are left. Assumes nothing.
 use mathlib.Core.Path.{_≡_}
 use Prim.Native.Nat.{_+_, _-_, _≤_}

@@ -1,4 +1,4 @@
--- `columns::exchange::lower_row` meets its contract: `lower-row` says what the exclusive or with the shifted difference does. Assumes nothing.
+-- `rows::exchange::lower_row` meets its contract: `lower-row` says what the exclusive or with the shifted difference does. Assumes nothing.
 use borrow.Author.Needs.{needs}
 use Rattle.rows.proofs.Shifts.{lower-row}
 use Rattle.rows.proofs.exchange.lower_row.Statement.{statement}

@@ -1,4 +1,4 @@
--- `columns::exchange::transpose` meets its contract: after the exchanges of weights 1, 2, 4 the digits below 8 are exchanged, and so on. Assumes nothing.
+-- `rows::exchange::transpose` meets its contract: after the exchanges of weights 1, 2, 4 the digits below 8 are exchanged, and so on. Assumes nothing.
 use mathlib.Core.Path.{refl}
 use native.Mathlib.Omega.{arith}
 use lib.Dec.{lit<}

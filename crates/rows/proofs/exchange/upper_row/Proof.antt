@@ -1,4 +1,4 @@
--- `columns::exchange::upper_row` meets its contract: `upper-row` says what the exclusive or with the difference does. Assumes nothing.
+-- `rows::exchange::upper_row` meets its contract: `upper-row` says what the exclusive or with the difference does. Assumes nothing.
 use borrow.Author.Needs.{needs}
 use Rattle.rows.proofs.Shifts.{upper-row}
 use Rattle.rows.proofs.exchange.upper_row.Statement.{statement}

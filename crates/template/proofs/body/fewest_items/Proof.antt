@@ -1,4 +1,4 @@
--- `template::fewest_items` meets its contract. Assumes nothing.
+-- `template::body::fewest_items` meets its contract. Assumes nothing.
 use borrow.Author.Tests.{lt-ltb, le-ltb}
 use Rattle.template.proofs.body.fewest_items.Statement.{statement}
 use Rattle.template.proofs.body.fewest_items.Tie as tie

@@ -1,4 +1,4 @@
--- `template::whole::length_clashes` meets its contract: it is the definition's own test, where an attribute is given. Assumes nothing.
+-- `template::body::length_clashes` meets its contract: it is the definition's own test, where an attribute is given. Assumes nothing.
 use Rattle.template.proofs.WholeTemplates.{clashes-is}
 use Rattle.template.proofs.body.length_clashes.Statement.{statement}
 use Rattle.template.proofs.body.length_clashes.Tie as tie

@@ -1,4 +1,4 @@
--- `template::whole::scan_body` meets its contract: each test of the code is the next test of `bodyHere`. Assumes nothing.
+-- `template::body::scan_body` meets its contract: each test of the code is the next test of `bodyHere`. Assumes nothing.
 use mathlib.Core.Path.{sym, _∙_}
 use Prim.Native.Nat.{_+_}
 use native.Mathlib.Omega.{arith}

@@ -1,4 +1,4 @@
--- `template::whole::scan_contents` meets its contract: the kind says what follows. Assumes nothing.
+-- `template::body::scan_contents` meets its contract: the kind says what follows. Assumes nothing.
 use native.Mathlib.Omega.{arith}
 use Rattle.template.proofs.Bodies.{record-noted, group-noted}
 use borrow.Author.Needs.{needs}

@@ -1,4 +1,4 @@
--- `template::whole::scan_front` meets its contract: the first kind says whether a length attribute is there. Assumes nothing.
+-- `template::body::scan_front` meets its contract: the first kind says whether a length attribute is there. Assumes nothing.
 use mathlib.Core.Path.{refl, sym, _∙_}
 use native.Mathlib.Omega.{arith}
 use Rattle.grammar.specs.Leaf.{leafHead}

@@ -1,4 +1,4 @@
--- `template::whole::scan_group` meets its contract: its items are one block, whose upper bound is open for a superset. Assumes nothing.
+-- `template::body::scan_group` meets its contract: its items are one block, whose upper bound is open for a superset. Assumes nothing.
 use mathlib.Core.Path.{ap}
 use mathlib.Core.Logic.{⊎-elim}
 use native.Mathlib.Omega.{arith}

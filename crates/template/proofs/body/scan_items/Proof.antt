@@ -1,4 +1,4 @@
--- `template::whole::scan_items` meets its contract. The loop: what the items from p on give, with the members, the blocks and the places so
+-- `template::body::scan_items` meets its contract. The loop: what the items from p on give, with the members, the blocks and the places so
 -- far, is what all of them give. The measure is the number of items left. Assumes nothing.
 use mathlib.Core.Path.{ap}
 use Prim.Native.Nat.{_-_}
