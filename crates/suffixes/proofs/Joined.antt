@@ -33,46 +33,27 @@ given-none {P} {from} {to} {s} f q never = record {
   blank = λ _. q;
 }
 
+-- the same bytes, given for another kind of list
+given-as : {P Q : List ℕ → Type 0} {from to : ℕ} {s : Suffix} → Given P from to s → (s .there ≡ true → First Q (slice from to (s .w))) → (s .there ≡ false → (v : List ℕ) → Q v → ⊥)
+    → Given Q from to s
+given-as g best none = record { best = best; none = none; size = g .size; outside = g .outside; blank = g .blank }
+
 pub given-same : {P Q : List ℕ → Type 0} {from to : ℕ} {s : Suffix} → ((v : List ℕ) → P v → Q v) → ((v : List ℕ) → Q v → P v) → Given P from to s → Given Q from to s
-given-same there back g = record {
-  best = λ t. first-same there back (g .best t);
-  none = λ f v h. g .none f v (back v h);
-  size = g .size;
-  outside = g .outside;
-  blank = g .blank;
-}
+given-same there back g = given-as g (λ t. first-same there back (g .best t)) (λ f v h. g .none f v (back v h))
 
 -- ---- the lesser of two
 pub kept-union : {P Q : List ℕ → Type 0} {from to : ℕ} {a b r : Suffix} → Given P from to a → Given Q from to b → Kept from to a b r → Given (λ v. P v ⊎ Q v) from to r
 unfolding choose
-kept-union p q (without f) = record {
-  best = λ t. first-union-left (p .best t) (q .none f);
-  none = λ t v. ⊎-elim (p .none t v) (q .none f v);
-  size = p .size;
-  outside = p .outside;
-  blank = p .blank;
-}
-kept-union p q (alone f) = record {
-  best = λ t. first-union-right (p .none f) (q .best t);
-  none = λ t v. ⊎-elim (p .none f v) (q .none t v);
-  size = q .size;
-  outside = q .outside;
-  blank = q .blank;
-}
-kept-union {P} {Q} {from} {to} {a} {b} p q (later ta tb e) = record {
-  best = λ t. subst (λ (x : Bool). First (λ v. P v ⊎ Q v) (choose x (slice from to (b .w)) (slice from to (a .w)))) e (first-union (p .best ta) (q .best tb));
-  none = λ f. absurd (clash ta f);
-  size = p .size;
-  outside = p .outside;
-  blank = p .blank;
-}
-kept-union {P} {Q} {from} {to} {a} {b} p q (sooner ta tb e) = record {
-  best = λ t. subst (λ (x : Bool). First (λ v. P v ⊎ Q v) (choose x (slice from to (b .w)) (slice from to (a .w)))) e (first-union (p .best ta) (q .best tb));
-  none = λ f. absurd (clash tb f);
-  size = q .size;
-  outside = q .outside;
-  blank = q .blank;
-}
+kept-union {P} {Q} {from} {to} {a} {b} p q = go
+  where
+    both : {x : Bool} → a .there ≡ true → b .there ≡ true → earlier (slice from to (b .w)) (slice from to (a .w)) ≡ x → First (λ v. P v ⊎ Q v) (choose x (slice from to (b .w)) (slice from to (a .w)))
+    both ta tb e = subst (λ (x : Bool). First (λ v. P v ⊎ Q v) (choose x (slice from to (b .w)) (slice from to (a .w)))) e (first-union (p .best ta) (q .best tb))
+
+    go : {r : Suffix} → Kept from to a b r → Given (λ v. P v ⊎ Q v) from to r
+    go (without f) = given-as p (λ t. first-union-left (p .best t) (q .none f)) (λ t v. ⊎-elim (p .none t v) (q .none f v))
+    go (alone f) = given-as q (λ t. first-union-right (p .none f) (q .best t)) (λ t v. ⊎-elim (p .none f v) (q .none t v))
+    go (later ta tb e) = given-as p (λ _. both ta tb e) (λ f. absurd (clash ta f))
+    go (sooner ta tb e) = given-as q (λ _. both ta tb e) (λ f. absurd (clash tb f))
 
 -- ---- a block with no members
 -- every assignment is 255 throughout
