@@ -49,25 +49,11 @@ low-columns j mask w h = record {
       (below c 32);
 }
 
-pub low-1 : LowColumns 1 1431655765
+-- the masks of the exchanges
+pub low-masks : LowColumns 1 1431655765 × LowColumns 2 858993459 × LowColumns 4 252645135 × LowColumns 8 16711935 × LowColumns 16 65535
 unfolding every bit digit
-low-1 = low-columns 1 1431655765 refl refl
-
-pub low-2 : LowColumns 2 858993459
-unfolding every bit digit
-low-2 = low-columns 2 858993459 refl refl
-
-pub low-4 : LowColumns 4 252645135
-unfolding every bit digit
-low-4 = low-columns 4 252645135 refl refl
-
-pub low-8 : LowColumns 8 16711935
-unfolding every bit digit
-low-8 = low-columns 8 16711935 refl refl
-
-pub low-16 : LowColumns 16 65535
-unfolding every bit digit
-low-16 = low-columns 16 65535 refl refl
+low-masks =
+    (low-columns 1 1431655765 refl refl, low-columns 2 858993459 refl refl, low-columns 4 252645135 refl refl, low-columns 8 16711935 refl refl, low-columns 16 65535 refl refl)
 
 -- ---- the digits below w are exchanged in the first s rows
 pub record Mixed (w s : ℕ) (a b : List ℕ) : Type 0 where

@@ -2,7 +2,7 @@
 use mathlib.Core.Path.{refl}
 use native.Mathlib.Omega.{arith}
 use lib.Dec.{lit<}
-use Rattle.rows.proofs.Transposes.{low-1, low-2, low-4, low-8, low-16, Mixed, mixed-none, mixed-more, mixed-all, sizes}
+use Rattle.rows.proofs.Transposes.{low-masks, Mixed, mixed-none, mixed-more, mixed-all, sizes}
 use Rattle.rows.proofs.exchange.transpose.Statement.{statement}
 use Rattle.rows.proofs.exchange.transpose.Tie as tie
 
@@ -29,17 +29,17 @@ exchange-all-requires : tie.Need-exchange-all-requires
 exchange-all-requires c κs =
     let p = c .before .pre in
     let s = sizes _ (p .0) in
-    (lit< tt, omega arith, omega arith, low-1, p .1)
+    (lit< tt, omega arith, omega arith, low-masks .0, p .1)
 
 exchange-all-requires-2 : tie.Need-exchange-all-requires-2
 exchange-all-requires-2 c κs =
     let s = sizes _ (c .before .before .before .pre .0) in
-    (lit< tt, omega arith, omega arith, low-2, c .before .exchange-all .ensures .size)
+    (lit< tt, omega arith, omega arith, low-masks .1, c .before .exchange-all .ensures .size)
 
 exchange-all-requires-3 : tie.Need-exchange-all-requires-3
 exchange-all-requires-3 c κs =
     let s = sizes _ (c .before .before .before .before .before .pre .0) in
-    (lit< tt, s .2, omega arith, low-4, c .before .exchange-all2 .ensures .size)
+    (lit< tt, s .2, omega arith, low-masks .2, c .before .exchange-all2 .ensures .size)
 
 returns : tie.Need-returns
 returns c =
@@ -52,7 +52,7 @@ exchange-all-requires-4 : tie.Need-exchange-all-requires-4
 exchange-all-requires-4 c κs =
     let l = c .before .before in
     let s = sizes _ (l .before .before .before .before .before .before .pre .0) in
-    (lit< tt, s .3 (omega arith), omega arith, low-8, l .exchange-all3 .ensures .size)
+    (lit< tt, s .3 (omega arith), omega arith, low-masks .3, l .exchange-all3 .ensures .size)
 
 returns-2 : tie.Need-returns-2
 returns-2 c =
@@ -66,7 +66,7 @@ exchange-all-requires-5 c κs =
     let l = c .before .before in
     let s = sizes _ (l .before .before .before .before .before .before .before .before .before .pre .0) in
     let e = s .4 (omega arith) in
-    (lit< tt, omega arith, omega arith, low-16, l .exchange-all4 .ensures .size)
+    (lit< tt, omega arith, omega arith, low-masks .4, l .exchange-all4 .ensures .size)
 
 returns-3 : tie.Need-returns-3
 returns-3 c =
