@@ -101,36 +101,23 @@ words-from m (span a b ∷ rs) p f =
 pub words-of : (rs : List Span) → Ascending rs → Words rs
 words-of rs f = words-from least rs least-low f
 
-pub to-from : (m : ℤ) (rs : List Span) → Low m → Words rs → From m rs → ranked.From (rank m) (ranks rs)
-to-from m [] p w f = tt
-to-from m (span a b ∷ rs) p w f =
+from-ranked : (m : ℤ) (rs : List Span) → Low m → Words rs → (From m rs → ranked.From (rank m) (ranks rs)) × (ranked.From (rank m) (ranks rs) → From m rs)
+from-ranked m [] p w = (λ f. tt, λ f. tt)
+from-ranked m (span a b ∷ rs) p w =
     let la = low a (w .0) in
     let lb = low b (w .1) in
-    let e : rank (b +ℤ pos 1 +ℤ pos 1) ≡ rank b + 2 = two-on b lb .1 in (
-      to-rank m a p la (f .0),
-      to-rank a b la lb (f .1),
-      rank-word b (w .1),
-      rw e at (to-from (b +ℤ pos 1 +ℤ pos 1) rs (two-on b lb .0) (w .2) (f .3)),
-    )
-
-of-from : (m : ℤ) (rs : List Span) → Low m → Words rs → ranked.From (rank m) (ranks rs) → From m rs
-of-from m [] p w f = tt
-of-from m (span a b ∷ rs) p w f =
-    let la = low a (w .0) in
-    let lb = low b (w .1) in
-    let e : rank (b +ℤ pos 1 +ℤ pos 1) ≡ rank b + 2 = two-on b lb .1 in (
-      of-rank m a p la (f .0),
-      of-rank a b la lb (f .1),
-      of-rank b greatest lb tt (omega arith),
-      of-from (b +ℤ pos 1 +ℤ pos 1) rs (two-on b lb .0) (w .2) (rw e (f .3)),
+    let e : rank (b +ℤ pos 1 +ℤ pos 1) ≡ rank b + 2 = two-on b lb .1 in
+    let next = from-ranked (b +ℤ pos 1 +ℤ pos 1) rs (two-on b lb .0) (w .2) in (
+      λ f. (to-rank m a p la (f .0), to-rank a b la lb (f .1), rank-word b (w .1), rw e at (next .0 (f .3))),
+      λ f. (of-rank m a p la (f .0), of-rank a b la lb (f .1), of-rank b greatest lb tt (omega arith), next .1 (rw e (f .3))),
     )
 
 -- ranges are ascending exactly where their ranks are
 pub to-ranked : (rs : List Span) → Ascending rs → ranked.From 0 (ranks rs)
-to-ranked rs f = to-from least rs least-low (words-of rs f) f
+to-ranked rs f = from-ranked least rs least-low (words-of rs f) .0 f
 
 pub of-ranked : (rs : List Span) → Words rs → ranked.From 0 (ranks rs) → Ascending rs
-of-ranked rs w f = of-from least rs least-low w f
+of-ranked rs w f = from-ranked least rs least-low w .1 f
 
 -- ---- join
 
