@@ -1,17 +1,18 @@
 -- One record at a place of the input: its faults, and its parts where it has none. Assumes nothing.
 use mathlib.Core.Path.{_≡_, refl, sym, ap, _∙_}
-use mathlib.Core.Bool.{Bool, true, false}
+use mathlib.Core.Bool.{Bool, true, false, cond}
 use mathlib.Core.List.{List}
 use Prim.Native.Nat.{ℕ, zero, suc, _+_, _-_, _≤_, _<_}
 use native.Mathlib.Omega.{arith}
 use borrow.Author.Tests.{lt-ltb, le-ltb, eq-eqb, ne-eqb}
+use lib.Dec.{ltb}
 use lib.Signed.{ltZ}
 use lib.ListN.{length, getD, drop, length-drop}
 use lib.Seq.{getD-drop, drop-drop}
 use Rattle.integers.specs.Integer.{intAt}
 use Rattle.integers.proofs.FourBytes.{intAt-drop}
 use Rattle.grammar.specs.Record.{Head, fault, leafHere, group, countFault, faultOr, groupHead, head}
-use Rattle.grammar.specs.Leaf.{single, range, any, singleHead, rangeHead, leafHead}
+use Rattle.grammar.specs.Leaf.{Leaf, single, range, any, singleHead, rangeHead, leafHead}
 use Rattle.elements.specs.Contract.{HeadAt, faulty, aLeaf, aGroup}
 use Rattle.grammar.proofs.RecordParts.{count-inv, kind-at}
 
@@ -59,6 +60,12 @@ head-as t h g code n next e a = rw e a
 -- ---- leaves of the integer family
 
 module _ (t : List ℕ) (at : ℕ) where
+  -- a body that is not all there
+  short : (size n next : ℕ) (h : Head Leaf) → leafHead (drop at t) ≡ cond (ltb (length (drop at t)) size) (fault 3) h → length t - at < size → HeadAt t (leafHead (drop at t)) 3 n next
+  short size n next h e l =
+      let q : cond (ltb (length (drop at t)) size) (fault 3) h ≡ fault 3 = rw (lt-ltb (length (drop at t)) size (omega (arith, length-drop at t))) in
+      faulty (e ∙ q) (omega arith)
+
   module _ (k : getD t at 0 ≡ 1) where
     is-single : leafHead (drop at t) ≡ singleHead (drop at t)
     unfolding leafHead
@@ -66,9 +73,7 @@ module _ (t : List ℕ) (at : ℕ) where
 
     pub single-short : (n next : ℕ) → length t - at < 5 → HeadAt t (leafHead (drop at t)) 3 n next
     unfolding singleHead
-    single-short n next h =
-        let q : singleHead (drop at t) ≡ fault 3 = rw (lt-ltb (length (drop at t)) 5 (omega (arith, length-drop at t))) in
-        faulty (is-single ∙ q) (omega arith)
+    single-short n next = short 5 n next _ is-single
 
     pub single-right : 5 ≤ length t - at → HeadAt t (leafHead (drop at t)) 0 0 (at + 5)
     unfolding singleHead
@@ -83,9 +88,7 @@ module _ (t : List ℕ) (at : ℕ) where
 
     pub range-short : (n next : ℕ) → length t - at < 9 → HeadAt t (leafHead (drop at t)) 3 n next
     unfolding rangeHead
-    range-short n next h =
-        let q : rangeHead (drop at t) ≡ fault 3 = rw (lt-ltb (length (drop at t)) 9 (omega (arith, length-drop at t))) in
-        faulty (is-range ∙ q) (omega arith)
+    range-short n next = short 9 n next _ is-range
 
     order-at : (b : Bool) → ltZ (intAt t (at + 5)) (intAt t (at + 1)) ≡ b → ltZ (intAt (drop at t) 5) (intAt (drop at t) 1) ≡ b
     order-at b e = rw (intAt-drop t at 5, intAt-drop t at 1) e
