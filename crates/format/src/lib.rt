@@ -102,6 +102,12 @@ pub const INFINITY: u8 = 255;
 
 pub const SPARE: u8 = 255;
 
+// ---- what a scan answers, in one number: the place after what it read and, 65,536 for each, the leaves before that place; or above FAULT, by
+// the refusal's number, that it stopped
+pub const LEAF: usize = 0x1_0000;
+
+pub const FAULT: usize = 0xff_ffff;
+
 // ---- the ends of the 32-bit integers
 pub const LEAST: i32 = -2147483648;
 

@@ -1,6 +1,5 @@
 -- Every kind of item and of body as a block: each of its k members is assigned once, and the spare elements number min to max.
 -- minOf st, maxOf st == how many spare elements a 20 allows; none without one
--- block first k min max == a block
 -- blockOfGroup m g  == a permutation or a set of, whose first member is m
 -- blockOfItem m i   == an item, whose first member is m
 -- blocksOfItems m is == the items of a record of, the first of whose members is m
@@ -20,6 +19,7 @@ use Rattle.grammar.specs.Leaf.{Leaf, leafHead}
 use Rattle.grammar.specs.Read.{got}
 use Rattle.grammar.specs.Reading.{counted, outermost}
 use Rattle.blocks.specs.declared.Block.{Block}
+use Rattle.blocks.specs.Numbers.{block}
 
 abbrev pub minOf : Star → ℕ
 minOf noStar = 0
@@ -28,9 +28,6 @@ minOf (star min max) = min
 abbrev pub maxOf : Star → ℕ
 maxOf noStar = 0
 maxOf (star min max) = max
-
-abbrev pub block : ℕ → ℕ → ℕ → ℕ → Block
-block first k min max = record { first = first; k = k; min = min; max = max }
 
 unfoldable pub blockOfGroup : {L : Type 0} → ℕ → Group L → Block
 blockOfGroup m (grouped es st) = block m (length es) (minOf st) (maxOf st)

@@ -5,6 +5,8 @@ use contract.Lifetimes.{Lfts}
 use denote.Triple.Clauses.{AtExit}
 use Rattle.integers.proofs.int_at.Reads as int-at
 use Rattle.integers.proofs.int_at.Kinds as int-at-kinds
+use Rattle.integers.proofs.join_bytes.Reads as join-bytes
+use Rattle.integers.proofs.join_bytes.Kinds as join-bytes-kinds
 use Rattle.integers.proofs.put_int.Reads as put-int
 use Rattle.integers.proofs.put_int.Kinds as put-int-kinds
 use Rattle.integers.proofs.same.Reads as same
@@ -28,3 +30,7 @@ same-unique κs a r r′ s s′ p q = p ∙ sym q
 pub within-unique : (κs : Lfts 0) (a : Dens κs within-kinds.ps) (r r′ : resT within-kinds.r κs .Denot) (s s′ : AtExit (endedOf 0 within-kinds.ps within-kinds.r) κs)
     → within.Post κs a r s → within.Post κs a r′ s′ → r ≡ r′
 within-unique κs a r r′ s s′ p q = p ∙ sym q
+
+pub join-bytes-unique : (κs : Lfts 0) (a : Dens κs join-bytes-kinds.ps) (r r′ : resT join-bytes-kinds.r κs .Denot) (s s′ : AtExit (endedOf 0 join-bytes-kinds.ps join-bytes-kinds.r) κs)
+    → join-bytes.Post κs a r s → join-bytes.Post κs a r′ s′ → r ≡ r′
+join-bytes-unique κs a r r′ s s′ p q = p ∙ sym q

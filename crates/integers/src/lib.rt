@@ -9,7 +9,7 @@ ghost use Rattle.integers.specs.Integer.{joined, signed, intAt, bits, in
 use format::LEAST;
 
 // The number that four bytes say with no sign.
-fn join_bytes(b0: u8, b1: u8, b2: u8, b3: u8) -> u32
+pub fn join_bytes(b0: u8, b1: u8, b2: u8, b3: u8) -> u32
     ensures { λ r. ⌜ r ≡ joined b0 b1 b2 b3 ⌝ }
 {
     (b0 as u32) | (b1 as u32) << 8 | (b2 as u32) << 16 | (b3 as u32) << 24

@@ -11,7 +11,8 @@ use Rattle.grammar.specs.Record.{countFault}
 use Rattle.grammar.specs.Leaf.{Leaf, leafHead}
 use Rattle.grammar.specs.Read.{mapRead}
 use Rattle.grammar.specs.Whole.{asSpares, starHere, members, permutationHere}
-use Rattle.grammar.specs.Blocks.{block, blockOfGroup, blockOfItem}
+use Rattle.grammar.specs.Blocks.{blockOfGroup, blockOfItem}
+use Rattle.blocks.specs.Numbers.{block}
 use Rattle.elements.specs.Contract.{Scanned, noCount}
 use Rattle.items.specs.Notes.{Noted, noted, MemberNotes, GroupNotes, ItemNotes}
 use Rattle.blocks.specs.declared.Block.{Block}

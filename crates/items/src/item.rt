@@ -7,7 +7,7 @@ ghost use lib.ListN.{length, drop};
 ghost use Rattle.grammar.specs.Leaf.{leafHead};
 ghost use Rattle.grammar.specs.Read.{mapRead};
 ghost use Rattle.grammar.specs.Whole.{asSpares, starHere, permutationHere, item};
-ghost use Rattle.grammar.specs.Blocks.{block};
+ghost use Rattle.blocks.specs.Numbers.{block};
 ghost use Rattle.items.specs.Notes.{Noted, ItemNotes};
 use crate::group::scan_member;
 use crate::group::scan_members;

@@ -19,7 +19,8 @@ use Rattle.facts.proofs.Spans.{between-in, between-from, between-to}
 use Rattle.blocks.proofs.Assignments.{assigns-test, test-assigns, once-test, test-once}
 use Rattle.blocks.specs.Pieces.{Takes}
 use Rattle.grammar.specs.Template.{Star, noStar, star, Group, grouped, Item, one, spares, permutation}
-use Rattle.grammar.specs.Blocks.{minOf, maxOf, block, blockOfGroup, blockOfItem}
+use Rattle.grammar.specs.Blocks.{minOf, maxOf, blockOfGroup, blockOfItem}
+use Rattle.blocks.specs.Numbers.{block}
 use Rattle.matching.specs.Obeys.{spare, allSpare, withinBlock, starMet, groupTakes, itemTakes}
 
 abbrev pub MayByte : (ℕ → ℕ → Bool) → ℕ → ℕ → Type 0

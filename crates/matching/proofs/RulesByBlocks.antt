@@ -20,7 +20,8 @@ use Rattle.blocks.specs.Pieces.{Takes, Cuts, Fills}
 use Rattle.grammar.specs.Element.{Elem}
 use Rattle.grammar.specs.Template.{grouped, Item, one, spares, permutation, Body, recordOf, setOf, superset, subset, Length, template, membersOfGroup, membersOfItem, membersOfItems, membersOf}
 use Rattle.grammar.specs.Members.{memberHits}
-use Rattle.grammar.specs.Blocks.{minOf, maxOf, block, blockOfGroup, blockOfItem, blocksOfItems, blocksOf}
+use Rattle.grammar.specs.Blocks.{minOf, maxOf, blockOfGroup, blockOfItem, blocksOfItems, blocksOf}
+use Rattle.blocks.specs.Numbers.{block}
 use Rattle.matching.specs.Obeys.{spare, rightBytes, noneTwice, someCut, cuts, itemTakes, bodyMet, lengthMet, obeysBy}
 use Rattle.matching.proofs.ItemsAsBlocks.{MayByte, MayAll, may-append, may-left, may-right, Within, Once, length-once, cnt-outside, Piece, PieceOf, takes-piece, piece-takes, group-says, group-test, item-says, item-test}
 

@@ -9,7 +9,8 @@ use Rattle.grammar.specs.Template.{Item, one, recordOf, membersOfItem, membersO
 use Rattle.grammar.specs.Leaf.{Leaf, leafHead}
 use Rattle.grammar.specs.Read.{Read, refuse, got}
 use Rattle.grammar.specs.Whole.{putItem, thenItems, members, item, items}
-use Rattle.grammar.specs.Blocks.{block, blocksOfItems, blocksOf, bodyKind, Standing}
+use Rattle.grammar.specs.Blocks.{blocksOfItems, blocksOf, bodyKind, Standing}
+use Rattle.blocks.specs.Numbers.{block}
 use Rattle.items.specs.Notes.{Noted, stopped, noted, Placed, ItemNotes}
 use Rattle.template.specs.Layouts.{padded, Outlined, RecordNotes}
 use Rattle.template.specs.declared.body.Outline.{Outline}
