@@ -8,6 +8,7 @@ use lib.Dec.{eqb}
 use Rattle.facts.specs.Counting.{between, cnt, count, anyBelow}
 use Rattle.blocks.specs.declared.Block.{Block}
 use Rattle.blocks.specs.Assignment.{takes, allRight, allOnce, assigns, wanted, joined}
+use Rattle.blocks.specs.Numbers.{block, numberOf, blockIn}
 use Rattle.blocks.specs.Pieces.{Takes, Fills}
 use Rattle.blocks.proofs.Assignments.{test-assigns}
 
@@ -65,3 +66,12 @@ three-elements = refl
 four-members : count (between 0 4) 32 ≡ 4
 unfolding count between
 four-members = refl
+
+-- two members from 3 on, and one or more spare elements
+as-a-number : numberOf (block 3 2 1 255) ≡ 4278256131
+unfolding numberOf
+as-a-number = refl
+
+as-a-block : blockIn 4278256131 ≡ block 3 2 1 255
+unfolding blockIn
+as-a-block = refl

@@ -1,27 +1,36 @@
 -- A scan, step by step: what one record makes of an element template, and one element template of a row of them. Assumes nothing.
 use mathlib.Core.Path.{_≡_, refl, sym, ap, _∙_}
-use mathlib.Core.Bool.{Bool, true, false}
+use mathlib.Core.Bool.{Bool, true, false, cond}
 use mathlib.Core.List.{List}
-use Prim.Native.Nat.{ℕ, zero, suc, _+_, _-_, _≤_, _<_}
+use mathlib.Core.Logic.{⊎-elim}
+use Prim.Native.Nat.{ℕ, zero, suc, _+_, _-_, _/_, _%_, _≤_, _<_}
 use native.Mathlib.Omega.{arith}
-use borrow.Author.Tests.{lt-ltb, le-ltb}
-use lib.ListN.{length, drop}
+use borrow.Author.Tests.{lt-ltb, le-ltb, ltb-true, ltb-false}
+use lib.Dec.{ltb}
+use lib.ListN.{length, getD, drop}
 use Rattle.grammar.specs.Element.{Elem, leaf, oneOf, noneOf, Elems, none, more}
+use Rattle.grammar.specs.Leaf.{Leaf, leafHead}
 use Rattle.grammar.specs.Record.{Head, fault, leafHere, group, head}
 use Rattle.grammar.specs.Read.{Read, refuse, got}
-use Rattle.grammar.specs.Reading.{Counted, counted, putFirst, thenMore, many, closed, tooDeep, opened, elem}
-use Rattle.elements.specs.Contract.{HeadAt, faulty, aLeaf, aGroup, Scanned, refused, read, leavesTo}
+use Rattle.grammar.specs.Reading.{Counted, counted, putFirst, thenMore, many, closed, tooDeep, opened, elem, outermost}
+use Rattle.elements.specs.Contract.{faultIn, placeIn, leavesIn, Place, From, groupKind, HeadAt, faulty, aLeaf, aGroup, Noted, stopped, noted, Ended, leavesTo, ScannedOne, ScannedAll, afterLeaf}
+use Rattle.facts.proofs.Cases.{by-test, below, clash}
+use Rattle.elements.proofs.Records.{head-none}
 
 -- ---- what any scan says
 
-module _ {A : Type 0} (countOf : A → ℕ) (t : List ℕ) (o : Read A) (code next count : ℕ) where
-  pub scanned-refused : Scanned countOf t o code next count → (code ≡ 0 → ⊥) → (o ≡ refuse code) × (0 < code)
-  scanned-refused (refused q p) n = (q, p)
-  scanned-refused (read a q z e i) n = absurd (n z)
+module _ {A : Type 0} (Tells : A → Type 0) (t : List ℕ) (o : Read A) (code next : ℕ) where
+  pub noted-stopped : Noted Tells t o code next → 0 < code → (o ≡ refuse code) × (code < 256)
+  noted-stopped (stopped q p s) n = (q, s)
+  noted-stopped (noted a q z e i) n = absurd (omega arith)
 
-  pub scanned-read : Scanned countOf t o code next count → code ≡ 0 → (a : A) × (o ≡ got a (drop next t)) × (countOf a ≡ count) × (next ≤ length t)
-  scanned-read (refused q p) z = absurd (omega arith)
-  scanned-read (read a q z′ e i) z = (a, q, e, i)
+  pub noted-read : Noted Tells t o code next → code ≡ 0 → (a : A) × (o ≡ got a (drop next t)) × Tells a × (next ≤ length t)
+  noted-read (stopped q p s) z = absurd (omega arith)
+  noted-read (noted a q z′ e i) z = (a, q, e, i)
+
+  pub noted-small : Noted Tells t o code next → code < 256
+  noted-small (stopped q p s) = s
+  noted-small (noted a q z e i) = omega arith
 
 -- ---- one element template, by its record
 
@@ -59,73 +68,158 @@ module _ {L : Type 0} (leaves : List ℕ → Head L) where
   deep-refused zero k s e = refl
   deep-refused (suc left) k s e = absurd (omega arith)
 
-closed-scanned : {L : Type 0} (t : List ℕ) (c : Bool) (o : Read (Counted (Elems L))) (code next k : ℕ) → Scanned leavesTo t o code next k → Scanned leavesTo t (closed c o) code next k
+-- ---- what a record's end says
+
+module _ {L : Type 0} (t : List ℕ) (at : ℕ) (h : Head L) (end : ℕ) (short : length t < 65536) where
+  pub head-stops : HeadAt t at h end → 16777215 < end → (h ≡ fault (faultIn end)) × (faultIn end < 256)
+  head-stops (faulty q p s) b = (q, s)
+  head-stops (aLeaf l q k a i) b = absurd (omega arith)
+  head-stops (aGroup c q k e i) b = absurd (omega arith)
+
+  pub head-fits : HeadAt t at h end → end ≤ 16777215 → (at ≤ end) × (end ≤ length t)
+  head-fits (faulty q p s) b = absurd (omega arith)
+  head-fits (aLeaf l q k a i) b = (a, i)
+  head-fits (aGroup c q k e i) b = (omega arith, i)
+
+  pub group-fits : HeadAt t at h end → end ≤ 16777215 → groupKind (getD t at 0) ≡ true → (end ≡ at + 2) × (end ≤ length t)
+  group-fits (faulty q p s) b k = absurd (omega arith)
+  group-fits (aLeaf l q g a i) b k = absurd (clash k g)
+  group-fits (aGroup c q g e i) b k = (e, i)
+
+-- a record without a fault has a first byte
+pub head-some : {L : Type 0} (leaves : List ℕ → Head L) (t : List ℕ) (at end : ℕ) → length t < 65536 → HeadAt t at (head leaves (drop at t)) end → end ≤ 16777215 → at < length t
+head-some leaves t at end short h sound =
+    ⊎-elim (λ (l : at < length t). l)
+    (λ (l : length t ≤ at). absurd (none (head-none leaves t at l) h))
+    (below at (length t))
+  where
+    none : head leaves (drop at t) ≡ fault 3 → HeadAt t at (head leaves (drop at t)) end → ⊥
+    none e (faulty q p s) = omega arith
+    none e (aLeaf l q k a i) = let c : _≡_ {A = ℕ} 0 1 = cc in omega arith
+    none e (aGroup c q k g i) = let x : _≡_ {A = ℕ} 0 1 = cc in omega arith
+
+-- a list or complement says what its members say
+closed-noted : (t : List ℕ) (c : Bool) (o : Read (Counted (Elems Leaf))) (k code next : ℕ) → Noted (λ (a : Counted (Elems Leaf)). leavesTo a ≡ k) t o code next → Noted (λ (a : Counted (Elem Leaf)). leavesTo a ≡ k) t (closed c o) code next
 unfolding closed leavesTo
-closed-scanned t c o code next k (refused q p) = refused (ap (closed c) q) p
-closed-scanned t false o code next k (read (counted es j) q z e i) = read (counted (oneOf es) j) (ap (closed false) q) z e i
-closed-scanned t true o code next k (read (counted es j) q z e i) = read (counted (noneOf es) j) (ap (closed true) q) z e i
+closed-noted t c o k code next (stopped q p s) = stopped (ap (closed c) q) p s
+closed-noted t false o k code next (noted (counted es j) q z e i) = noted (counted (oneOf es) j) (ap (closed false) q) z e i
+closed-noted t true o k code next (noted (counted es j) q z e i) = noted (counted (noneOf es) j) (ap (closed true) q) z e i
 
-module _ {L : Type 0} (leaves : List ℕ → Head L) (t : List ℕ) (at left k code n next : ℕ) where
-  pub scan-fault : HeadAt t (head leaves (drop at t)) code n next → (p c : ℕ) → (code ≡ 0 → ⊥) → Scanned leavesTo t (elem leaves left k (drop at t)) code p c
-  scan-fault (faulty q h) p c z = refused (elem-fault leaves left k (drop at t) code q) h
-  scan-fault (aLeaf l q e m i) p c z = absurd (z e)
-  scan-fault (aGroup b q e m i) p c z = absurd (z e)
+-- ---- one element template after the place and the leaves `from`
 
-  module _ (sound : code ≡ 0) where
-    pub scan-deep : HeadAt t (head leaves (drop at t)) code n next → (p c : ℕ) → left ≡ 0 → Scanned leavesTo t (elem leaves left k (drop at t)) 7 p c
+module _ (t : List ℕ) (left from end : ℕ) (start : From t from) where
+  pub one-fault : HeadAt t (placeIn from) (head leafHead (drop (placeIn from) t)) end → 16777215 < end → ScannedOne t left from end
+  one-fault h b =
+      let v = head-stops t (placeIn from) (head leafHead (drop (placeIn from) t)) end (start .0 .1) h b in
+      stopped (elem-fault leafHead left (leavesIn from) (drop (placeIn from) t) (faultIn end) (v .0)) (omega arith) (v .1)
+
+  module _ (sound : end ≤ 16777215) where
+    pub one-deep : HeadAt t (placeIn from) (head leafHead (drop (placeIn from) t)) end → (r : ℕ) → r ≡ 16777215 + 7 → left ≡ 0 → ScannedOne t left from r
     unfolding tooDeep
-    scan-deep (faulty q h) p c z = absurd (omega arith)
-    scan-deep (aLeaf l q e m i) p c z = refused (deep-refused leaves left k (drop at t) z ∙ ap tooDeep q) (omega arith)
-    scan-deep (aGroup b q e m i) p c z = refused (deep-refused leaves left k (drop at t) z ∙ ap tooDeep q) (omega arith)
-
-    pub sound-fits : HeadAt t (head leaves (drop at t)) code n next → next ≤ length t
-    sound-fits (faulty q h) = absurd (omega arith)
-    sound-fits (aLeaf l q e m i) = i
-    sound-fits (aGroup b q e m i) = i
+    one-deep (faulty q p s) r e z = absurd (omega arith)
+    one-deep (aLeaf l q k a i) r e z =
+        let f : _≡_ {A = ℕ} 7 (faultIn r) = omega arith in
+        stopped (deep-refused leafHead left (leavesIn from) (drop (placeIn from) t) z ∙ ap tooDeep q ∙ ap refuse f) (omega arith) (omega arith)
+    one-deep (aGroup c q k g i) r e z =
+        let f : _≡_ {A = ℕ} 7 (faultIn r) = omega arith in
+        stopped (deep-refused leafHead left (leavesIn from) (drop (placeIn from) t) z ∙ ap tooDeep q ∙ ap refuse f) (omega arith) (omega arith)
 
     module _ (level : 0 < left) where
-      pub scan-group : HeadAt t (head leaves (drop at t)) code n next → (code′ next′ k′ : ℕ) → (n ≡ 0 → ⊥)
-          → Scanned leavesTo t (many (elem leaves (left - 1)) n k (drop next t)) code′ next′ k′
-          → Scanned leavesTo t (elem leaves left k (drop at t)) code′ next′ k′
-      scan-group (faulty q h) code′ next′ k′ z s = absurd (omega arith)
-      scan-group (aLeaf l q e m i) code′ next′ k′ z s = absurd (z m)
-      scan-group (aGroup b q e m i) code′ next′ k′ z s = rw (group-opens leaves left k (drop at t) b n (drop next t) level q) (closed-scanned t b _ code′ next′ k′ s)
+      -- the members of a list or complement begin two bytes on
+      pub one-group : HeadAt t (placeIn from) (head leafHead (drop (placeIn from) t)) end → groupKind (getD t (placeIn from) 0) ≡ true → (r : ℕ)
+          → ScannedAll t (left - 1) (getD t (placeIn from + 1) 0) (from + 2) r → ScannedOne t left from r
+      one-group (faulty q p s) k r h = absurd (omega arith)
+      one-group (aLeaf l q g a i) k r h = absurd (clash k g)
+      one-group (aGroup c q g e i) k r h =
+          let place : (from + 2) % 65536 ≡ end = omega (arith, start .0 .1) in
+          let same : (from + 2) / 65536 ≡ from / 65536 = omega (arith, start .0 .1) in
+          let h₁ : Noted (λ (a : Counted (Elems Leaf)). leavesTo a ≡ leavesIn r) t (many (elem leafHead (left - 1)) (getD t (placeIn from + 1) 0) (from / 65536) (drop end t)) (faultIn r) (placeIn r) = rw (place, same) at h in
+          rw (group-opens leafHead left (leavesIn from) (drop (placeIn from) t) c (getD t (placeIn from + 1) 0) (drop end t) level q) (closed-noted t c _ (leavesIn r) (faultIn r) (placeIn r) h₁)
 
-      module _ (single : n ≡ 0) where
-        pub scan-over : HeadAt t (head leaves (drop at t)) code n next → (p c : ℕ) → 63 < k → Scanned leavesTo t (elem leaves left k (drop at t)) 8 p c
-        scan-over (faulty q h) p c o = absurd (omega arith)
-        scan-over (aLeaf l q e m i) p c o = refused (leaf-over leaves left k (drop at t) l (drop next t) level o q) (omega arith)
-        scan-over (aGroup b q e m i) p c o = absurd (omega arith)
+      pub one-leaf : HeadAt t (placeIn from) (head leafHead (drop (placeIn from) t)) end → groupKind (getD t (placeIn from) 0) ≡ false → (r : ℕ) → r ≡ afterLeaf from (end - placeIn from) → ScannedOne t left from r
+      unfolding leavesTo
+      one-leaf (faulty q p s) k r e = absurd (omega arith)
+      one-leaf (aGroup c q g x i) k r e = absurd (clash g k)
+      one-leaf (aLeaf l q g a i) k r e =
+          by-test (ltb 63 (leavesIn from))
+          (λ over.
+          let e₁ : r ≡ 16777215 + 8 = rw over at e in
+          let f : _≡_ {A = ℕ} 8 (faultIn r) = omega arith in
+          stopped (leaf-over leafHead left (leavesIn from) (drop (placeIn from) t) l (drop end t) level (ltb-true 63 (leavesIn from) over) q ∙ ap refuse f) (omega arith) (omega arith))
+          (λ few.
+          let e₁ : r ≡ from + 65536 + (end - placeIn from) = rw few at e in
+          let small : from / 65536 ≤ 63 = ltb-false 63 (leavesIn from) few in
+          let place : r % 65536 ≡ end = omega (arith, start .0 .1) in
+          let count : from / 65536 + 1 ≡ r / 65536 = omega (arith, start .0 .1) in
+          let z : faultIn r ≡ 0 = omega (arith, start .0 .1) in
+          let o : elem leafHead left (leavesIn from) (drop (placeIn from) t) ≡ got (counted (leaf l) (from / 65536 + 1)) (drop (placeIn r) t) =
+          leaf-counts leafHead left (leavesIn from) (drop (placeIn from) t) l (drop end t) level small q ∙ ap (λ p. got (counted (leaf l) (from / 65536 + 1)) (drop p t)) (sym place) in
+          noted (counted (leaf l) (from / 65536 + 1)) o z count (omega arith))
 
-        pub scan-leaf : HeadAt t (head leaves (drop at t)) code n next → k ≤ 63 → Scanned leavesTo t (elem leaves left k (drop at t)) 0 next (k + 1)
-        unfolding leavesTo
-        scan-leaf (faulty q h) o = absurd (omega arith)
-        scan-leaf (aLeaf l q e m i) o = read (counted (leaf l) (k + 1)) (leaf-counts leaves left k (drop at t) l (drop next t) level o q) refl refl i
-        scan-leaf (aGroup b q e m i) o = absurd (omega arith)
+-- ---- several, one after the other
 
--- ---- several, by a reader of one
+put-noted : (t : List ℕ) (e : Elem Leaf) (o : Read (Counted (Elems Leaf))) (k code next : ℕ) → Noted (λ (a : Counted (Elems Leaf)). leavesTo a ≡ k) t o code next → Noted (λ (a : Counted (Elems Leaf)). leavesTo a ≡ k) t (putFirst e o) code next
+unfolding putFirst leavesTo
+put-noted t e o k code next (stopped q h s) = stopped (ap (putFirst e) q) h s
+put-noted t e o k code next (noted (counted es j) q z v i) = noted (counted (more e es) j) (ap (putFirst e) q) z v i
 
-module _ {L : Type 0} (p : ℕ → List ℕ → Read (Counted (Elem L))) (t : List ℕ) where
-  put-scanned : (e : Elem L) (o : Read (Counted (Elems L))) (code next c : ℕ) → Scanned leavesTo t o code next c → Scanned leavesTo t (putFirst e o) code next c
-  unfolding putFirst leavesTo
-  put-scanned e o code next c (refused q h) = refused (ap (putFirst e) q) h
-  put-scanned e o code next c (read (counted es j) q z v i) = read (counted (more e es) j) (ap (putFirst e) q) z v i
+module _ (t : List ℕ) (left : ℕ) where
+  -- what one makes of the place and leaves so far
+  one-next : (from s : ℕ) → ScannedOne t left from s → s ≤ 16777215 → (e : Elem Leaf) × (elem leafHead left (leavesIn from) (drop (placeIn from) t) ≡ got (counted e (leavesIn s)) (drop (placeIn s) t)) × (placeIn s ≤ length t)
+  unfolding leavesTo
+  one-next from s (stopped q p b) l = absurd (omega arith)
+  one-next from s (noted (counted e j) q z v i) l = (e, q ∙ ap (λ k. got (counted e k) (drop (placeIn s) t)) v, i)
 
-  pub all-step : (n k at : ℕ) (a : Counted (Elem L)) (k′ at′ code next c : ℕ) → 0 < n → p k (drop at t) ≡ got a (drop at′ t) → leavesTo a ≡ k′
-      → Scanned leavesTo t (many p (n - 1) k′ (drop at′ t)) code next c → Scanned leavesTo t (many p n k (drop at t)) code next c
-  unfolding many thenMore leavesTo
-  all-step zero k at a k′ at′ code next c b q v s = absurd (omega arith)
-  all-step (suc n) k at (counted e j) k′ at′ code next c b q v s =
-      let down : suc n - 1 ≡ n = omega arith in
-      let s₁ : Scanned leavesTo t (many p n j (drop at′ t)) code next c = rw (v, sym down) s in
-      rw (q) (put-scanned e _ code next c s₁)
+  pub next-fits : (from s : ℕ) → ScannedOne t left from s → s ≤ 16777215 → placeIn s ≤ length t
+  next-fits from s h l = one-next from s h l .2
 
-  pub all-stop : (n k at code next c : ℕ) → 0 < n → (p k (drop at t) ≡ refuse code) × (0 < code) → Scanned leavesTo t (many p n k (drop at t)) code next c
+  pub all-step : (n from s r : ℕ) → 0 < n → ScannedOne t left from s → s ≤ 16777215 → ScannedAll t left (n - 1) s r → ScannedAll t left n from r
   unfolding many thenMore
-  all-stop zero k at code next c b q = absurd (omega arith)
-  all-stop (suc n) k at code next c b q = refused (ap (λ o. thenMore o (many p n)) (q .0)) (q .1)
+  all-step zero from s r b h l g = absurd (omega arith)
+  all-step (suc n) from s r b h l g =
+      let v = one-next from s h l in
+      let down : suc n - 1 ≡ n = omega arith in
+      let g₁ : ScannedAll t left n s r = rw down at g in
+      rw (v .1) (put-noted t (v .0) _ (leavesIn r) (faultIn r) (placeIn r) g₁)
 
-  pub all-end : (n k at : ℕ) → n ≡ 0 → at ≤ length t → Scanned leavesTo t (many p n k (drop at t)) 0 at k
+  pub all-stop : (n from s : ℕ) → 0 < n → ScannedOne t left from s → 16777215 < s → ScannedAll t left n from s
+  unfolding many thenMore
+  all-stop zero from s b h l = absurd (omega arith)
+  all-stop (suc n) from s b h l =
+      let v = noted-stopped _ _ _ _ _ h (omega arith) in
+      stopped (ap (λ o. thenMore o (many (elem leafHead left) n)) (v .0)) (omega arith) (v .1)
+
+  pub all-end : (n from : ℕ) → n ≡ 0 → From t from → ScannedAll t left n from from
   unfolding many leavesTo
-  all-end zero k at e i = read (counted none k) refl refl refl i
-  all-end (suc n) k at e i = absurd (omega arith)
+  all-end zero from e f = noted (counted none (leavesIn from)) refl (omega (arith, f .1)) refl (f .0 .0)
+  all-end (suc n) from e f = absurd (omega arith)
+
+-- ---- an element template at depth 1, after its record
+
+module _ (t : List ℕ) (at end : ℕ) (short : length t < 65536) where
+  pub head-ended : HeadAt t at (head leafHead (drop at t)) end → 16777215 < end → Ended t (outermost leafHead (drop at t)) end
+  head-ended h b =
+      let v = head-stops t at (head leafHead (drop at t)) end short h b in
+      stopped (elem-fault leafHead 8 0 (drop at t) (faultIn end) (v .0)) (omega arith) (v .1)
+
+  module _ (sound : end ≤ 16777215) where
+    pub leaf-ended : HeadAt t at (head leafHead (drop at t)) end → groupKind (getD t at 0) ≡ false → Ended t (outermost leafHead (drop at t)) end
+    leaf-ended (faulty q p s) k = absurd (omega arith)
+    leaf-ended (aGroup c q g x i) k = absurd (clash g k)
+    leaf-ended (aLeaf l q g a i) k = noted _ (leaf-counts leafHead 8 0 (drop at t) l (drop end t) (omega arith) (omega arith) q) (omega arith) tt i
+
+    module _ (r : ℕ) (held : ScannedAll t 7 (getD t (at + 1) 0) end r) where
+      outer : HeadAt t at (head leafHead (drop at t)) end → groupKind (getD t at 0) ≡ true → Noted (λ (a : Counted (Elem Leaf)). leavesTo a ≡ leavesIn r) t (outermost leafHead (drop at t)) (faultIn r) (placeIn r)
+      outer (faulty q p s) k = absurd (omega arith)
+      outer (aLeaf l q g a i) k = absurd (clash k g)
+      outer (aGroup c q g e i) k =
+          let place : end % 65536 ≡ end = omega arith in
+          let none-yet : end / 65536 ≡ 0 = omega arith in
+          let h₁ : Noted (λ (a : Counted (Elems Leaf)). leavesTo a ≡ leavesIn r) t (many (elem leafHead 7) (getD t (at + 1) 0) 0 (drop end t)) (faultIn r) (placeIn r) = rw (place, none-yet) at held in
+          rw (group-opens leafHead 8 0 (drop at t) c (getD t (at + 1) 0) (drop end t) (omega arith) q) (closed-noted t c _ (leavesIn r) (faultIn r) (placeIn r) h₁)
+
+      pub group-stopped : HeadAt t at (head leafHead (drop at t)) end → groupKind (getD t at 0) ≡ true → 16777215 < r → Ended t (outermost leafHead (drop at t)) r
+      group-stopped h k b = let v = noted-stopped _ _ _ _ _ (outer h k) (omega arith) in stopped (v .0) (omega arith) (v .1)
+
+      pub group-ended : HeadAt t at (head leafHead (drop at t)) end → groupKind (getD t at 0) ≡ true → r ≤ 16777215 → Ended t (outermost leafHead (drop at t)) (r % 65536)
+      group-ended h k b = let v = noted-read _ _ _ _ _ (outer h k) (omega arith) in noted (v .0) (v .1) (omega arith) tt (v .3)

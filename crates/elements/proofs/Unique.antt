@@ -1,24 +1,25 @@
--- Each public function's promise allows one result only, stated of the contract itself; where a record or an element template is refused, only the
--- number is promised. Assumes nothing.
-use mathlib.Core.Path.{_≡_, sym, ap, _∙_}
+-- Each public function's promise allows one result only, stated of the contract itself: the number says the refusal too. Assumes nothing.
+use mathlib.Core.Path.{_≡_, sym, _∙_}
 use mathlib.Core.List.{List}
-use Prim.Native.Nat.{ℕ}
+use Prim.Native.Nat.{ℕ, _-_, _≤_, _<_}
 use native.Mathlib.Omega.{arith}
-use lib.ListN.{drop}
+use lib.ListN.{length, drop}
 use borrow.Fn.Kinds.{Dens, resT, endedOf}
 use contract.Lifetimes.{Lfts}
 use denote.Triple.Clauses.{AtExit}
 use Rattle.grammar.specs.Record.{Head}
 use Rattle.grammar.specs.Read.{Read}
-use Rattle.elements.specs.Contract.{HeadAt, faulty, aLeaf, aGroup, Scanned, refused, read, Answered, rejected, accepted}
-use Rattle.elements.specs.declared.Head.{Head as HeadOf}
-use Rattle.elements.specs.declared.Scan.{Scan}
+use Rattle.elements.specs.Contract.{faultIn, HeadAt, faulty, aLeaf, aGroup, Noted, stopped, noted, Answered, rejected, accepted}
+use Rattle.elements.proofs.refusal.Reads as refusal
+use Rattle.elements.proofs.refusal.Kinds as refusal-kinds
+use Rattle.elements.proofs.is_group.Reads as is-group
+use Rattle.elements.proofs.is_group.Kinds as is-group-kinds
 use Rattle.elements.proofs.count_fault.Reads as count-fault
 use Rattle.elements.proofs.count_fault.Kinds as count-fault-kinds
-use Rattle.elements.proofs.head_at.Reads as head-at
-use Rattle.elements.proofs.head_at.Kinds as head-at-kinds
-use Rattle.elements.proofs.scan_one.Reads as scan-one
-use Rattle.elements.proofs.scan_one.Kinds as scan-one-kinds
+use Rattle.elements.proofs.head_end.Reads as head-end
+use Rattle.elements.proofs.head_end.Kinds as head-end-kinds
+use Rattle.elements.proofs.rest_end.Reads as rest-end
+use Rattle.elements.proofs.rest_end.Kinds as rest-end-kinds
 use Rattle.elements.proofs.scan_element.Reads as scan-element
 use Rattle.elements.proofs.scan_element.Kinds as scan-element-kinds
 use Rattle.facts.proofs.Slices.{same-place}
@@ -30,53 +31,44 @@ answered-unique o r r′ (rejected q p) (accepted a q′ z) = let c : _≡_ {A =
 answered-unique o r r′ (accepted a q z) (rejected q′ p) = let c : _≡_ {A = ℕ} 0 1 = cc in absurd (omega arith)
 answered-unique o r r′ (accepted a q z) (accepted b q′ z′) = z ∙ sym z′
 
--- the two have the same number, and where that is 0 the same fields
-pub record SameHead (h h′ : HeadOf) : Type 0 where
-  pub code : h .code ≡ h′ .code
-  pub n : h .code ≡ 0 → h .n ≡ h′ .n
-  pub next : h .code ≡ 0 → h .next ≡ h′ .next
+-- one record has one end
+head-same : {L : Type 0} (t : List ℕ) (at : ℕ) (h : Head L) (r r′ : ℕ) → HeadAt t at h r → HeadAt t at h r′ → r ≡ r′
+head-same t at h r r′ (faulty e p s) (faulty e′ p′ s′) = let c : faultIn r ≡ faultIn r′ = cc in omega arith
+head-same t at h r r′ (faulty e p s) (aLeaf l e′ k a i) = let c : _≡_ {A = ℕ} 0 1 = cc in absurd (omega arith)
+head-same t at h r r′ (faulty e p s) (aGroup c e′ k a i) = let x : _≡_ {A = ℕ} 0 1 = cc in absurd (omega arith)
+head-same t at h r r′ (aLeaf l e k a i) (faulty e′ p s) = let c : _≡_ {A = ℕ} 0 1 = cc in absurd (omega arith)
+head-same t at h r r′ (aLeaf l e k a i) (aLeaf l′ e′ k′ a′ i′) = let d : drop r t ≡ drop r′ t = cc in same-place t r r′ i i′ d
+head-same t at h r r′ (aLeaf l e k a i) (aGroup c e′ k′ a′ i′) = let x : _≡_ {A = ℕ} 0 1 = cc in absurd (omega arith)
+head-same t at h r r′ (aGroup c e k a i) (faulty e′ p s) = let x : _≡_ {A = ℕ} 0 1 = cc in absurd (omega arith)
+head-same t at h r r′ (aGroup c e k a i) (aLeaf l e′ k′ a′ i′) = let x : _≡_ {A = ℕ} 0 1 = cc in absurd (omega arith)
+head-same t at h r r′ (aGroup c e k a i) (aGroup c′ e′ k′ a′ i′) = a ∙ sym a′
 
-head-same : {L : Type 0} (t : List ℕ) (o : Head L) (h h′ : HeadOf) → HeadAt t o (h .code) (h .n) (h .next) → HeadAt t o (h′ .code) (h′ .n) (h′ .next) → SameHead h h′
-head-same t o h h′ (faulty e p) (faulty e′ p′) = let c : h .code ≡ h′ .code = cc in record { code = c; n = λ z. absurd (omega arith); next = λ z. absurd (omega arith) }
-head-same t o h h′ (faulty e p) (aLeaf l e′ z s f) = let c : _≡_ {A = ℕ} 0 1 = cc in absurd (omega arith)
-head-same t o h h′ (faulty e p) (aGroup c e′ z s f) = let x : _≡_ {A = ℕ} 0 1 = cc in absurd (omega arith)
-head-same t o h h′ (aLeaf l e z s f) (faulty e′ p) = let c : _≡_ {A = ℕ} 0 1 = cc in absurd (omega arith)
-head-same t o h h′ (aLeaf l e z s f) (aLeaf l′ e′ z′ s′ f′) =
-    let r : drop (h .next) t ≡ drop (h′ .next) t = cc in
-    record { code = z ∙ sym z′; n = λ _. s ∙ sym s′; next = λ _. same-place t (h .next) (h′ .next) f f′ r }
-head-same t o h h′ (aLeaf l e z s f) (aGroup c e′ z′ s′ f′) = let x : _≡_ {A = ℕ} 0 1 = cc in absurd (omega arith)
-head-same t o h h′ (aGroup c e z s f) (faulty e′ p) = let x : _≡_ {A = ℕ} 0 1 = cc in absurd (omega arith)
-head-same t o h h′ (aGroup c e z s f) (aLeaf l e′ z′ s′ f′) = let x : _≡_ {A = ℕ} 0 1 = cc in absurd (omega arith)
-head-same t o h h′ (aGroup c e z s f) (aGroup c′ e′ z′ s′ f′) =
-    let r : drop (h .next) t ≡ drop (h′ .next) t = cc in
-    let m : h .n ≡ h′ .n = cc in
-    record { code = z ∙ sym z′; n = λ _. m; next = λ _. same-place t (h .next) (h′ .next) f f′ r }
+-- one reading has one answer, whatever is told of it besides
+pub noted-same : {A : Type 0} (Tells Tells′ : A → Type 0) (t : List ℕ) (o : Read A) (r r′ : ℕ) → Noted Tells t o (faultIn r) r → Noted Tells′ t o (faultIn r′) r′ → r ≡ r′
+noted-same Tells Tells′ t o r r′ (stopped e p s) (stopped e′ p′ s′) = let c : faultIn r ≡ faultIn r′ = cc in omega arith
+noted-same Tells Tells′ t o r r′ (stopped e p s) (noted a e′ z k f) = let c : _≡_ {A = ℕ} 0 1 = cc in absurd (omega arith)
+noted-same Tells Tells′ t o r r′ (noted a e z k f) (stopped e′ p s) = let c : _≡_ {A = ℕ} 0 1 = cc in absurd (omega arith)
+noted-same Tells Tells′ t o r r′ (noted a e z k f) (noted a′ e′ z′ k′ f′) = let d : drop r t ≡ drop r′ t = cc in same-place t r r′ f f′ d
 
-pub record SameScan (s s′ : Scan) : Type 0 where
-  pub code : s .code ≡ s′ .code
-  pub next : s .code ≡ 0 → s .next ≡ s′ .next
-  pub count : s .code ≡ 0 → s .count ≡ s′ .count
+pub refusal-unique : (κs : Lfts 0) (a : Dens κs refusal-kinds.ps) (r r′ : resT refusal-kinds.r κs .Denot) (s s′ : AtExit (endedOf 0 refusal-kinds.ps refusal-kinds.r) κs)
+    → refusal.Post κs a r s → refusal.Post κs a r′ s′ → r ≡ r′
+refusal-unique κs a r r′ s s′ p q = p ∙ sym q
 
-scan-same : {A : Type 0} (countOf : A → ℕ) (t : List ℕ) (o : Read A) (s s′ : Scan) → Scanned countOf t o (s .code) (s .next) (s .count) → Scanned countOf t o (s′ .code) (s′ .next) (s′ .count) → SameScan s s′
-scan-same countOf t o s s′ (refused e p) (refused e′ p′) = let c : s .code ≡ s′ .code = cc in record { code = c; next = λ z. absurd (omega arith); count = λ z. absurd (omega arith) }
-scan-same countOf t o s s′ (refused e p) (read a e′ z k f) = let c : _≡_ {A = ℕ} 0 1 = cc in absurd (omega arith)
-scan-same countOf t o s s′ (read a e z k f) (refused e′ p) = let c : _≡_ {A = ℕ} 0 1 = cc in absurd (omega arith)
-scan-same countOf t o s s′ (read a e z k f) (read a′ e′ z′ k′ f′) =
-    let r : drop (s .next) t ≡ drop (s′ .next) t = cc in
-    let b : a ≡ a′ = cc in
-    record { code = z ∙ sym z′; next = λ _. same-place t (s .next) (s′ .next) f f′ r; count = λ _. sym k ∙ ap countOf b ∙ k′ }
+pub is-group-unique : (κs : Lfts 0) (a : Dens κs is-group-kinds.ps) (r r′ : resT is-group-kinds.r κs .Denot) (s s′ : AtExit (endedOf 0 is-group-kinds.ps is-group-kinds.r) κs)
+    → is-group.Post κs a r s → is-group.Post κs a r′ s′ → r ≡ r′
+is-group-unique κs a r r′ s s′ p q = p ∙ sym q
 
 pub count-fault-unique : (κs : Lfts 1) (a : Dens κs count-fault-kinds.ps) (r r′ : resT count-fault-kinds.r κs .Denot) (s s′ : AtExit (endedOf 1 count-fault-kinds.ps count-fault-kinds.r) κs)
     → count-fault.Post κs a r s → count-fault.Post κs a r′ s′ → r ≡ r′
 count-fault-unique κs a r r′ s s′ p q = p ∙ sym q
 
-pub head-at-unique : (κs : Lfts 1) (a : Dens κs head-at-kinds.ps) (r r′ : resT head-at-kinds.r κs .Denot) (s s′ : AtExit (endedOf 1 head-at-kinds.ps head-at-kinds.r) κs)
-    → head-at.Post κs a r s → head-at.Post κs a r′ s′ → SameHead r r′
-head-at-unique κs a r r′ s s′ p q = head-same _ _ r r′ p q
+pub head-end-unique : (κs : Lfts 1) (a : Dens κs head-end-kinds.ps) (r r′ : resT head-end-kinds.r κs .Denot) (s s′ : AtExit (endedOf 1 head-end-kinds.ps head-end-kinds.r) κs)
+    → head-end.Post κs a r s → head-end.Post κs a r′ s′ → r ≡ r′
+head-end-unique κs a r r′ s s′ p q = head-same _ _ _ r r′ p q
 
-pub scan-one-unique : (κs : Lfts 1) (a : Dens κs scan-one-kinds.ps) (r r′ : resT scan-one-kinds.r κs .Denot) (s s′ : AtExit (endedOf 1 scan-one-kinds.ps scan-one-kinds.r) κs)
-    → scan-one.Post κs a r s → scan-one.Post κs a r′ s′ → SameScan r r′
-scan-one-unique κs a r r′ s s′ p q = scan-same _ _ _ r r′ p q
+pub rest-end-unique : (κs : Lfts 1) (a : Dens κs rest-end-kinds.ps) (r r′ : resT rest-end-kinds.r κs .Denot) (s s′ : AtExit (endedOf 1 rest-end-kinds.ps rest-end-kinds.r) κs)
+    → rest-end.Post κs a r s → rest-end.Post κs a r′ s′ → r ≡ r′
+rest-end-unique κs a r r′ s s′ p q = noted-same _ _ _ _ r r′ p q
 
 pub scan-element-unique : (κs : Lfts 1) (a : Dens κs scan-element-kinds.ps) (r r′ : resT scan-element-kinds.r κs .Denot) (s s′ : AtExit (endedOf 1 scan-element-kinds.ps scan-element-kinds.r) κs)
     → scan-element.Post κs a r s → scan-element.Post κs a r′ s′ → r ≡ r′

@@ -1,33 +1,63 @@
 -- What the functions say. A place is an index into the whole input t; what stands there is `drop place t`.
--- HeadAt t h code n next <-> the record h: its fault `code`, never 0; or `code` 0, n the members that follow, none for a leaf, and
---                      `next` the place after the record
--- Scanned countOf t o code next count <-> what a scan says of the reading o: the refusal `code`, never 0; or `code` 0, `next` the
---                      place after what was read, and `count` as countOf counts it
+-- A scan answers by one number r. Up to 16,777,215 it is a place and, 65,536 for each, the leaves before that place; above it says a refusal.
+-- faultIn r           == the number of the refusal that r says, 0 where it says none; placeIn r, leavesIn r == the place, and the leaves, that r says
+-- Place t at         <-> `at` is a place of t, and t is short enough for its places to be said so
+-- From t from        <-> `from` says a place of such a t, and no refusal
+-- groupKind kind      == a record of this kind has members: a list or a complement
+-- HeadAt t at h r    <-> r says of the record h that stands at `at`: its fault, never 0; or the place after it; which kinds have members, and how many
+-- Noted Tells t o code next <-> what a scan says of the reading o: the refusal `code`, never 0; or `code` 0, `next` the place after what
+--                      was read, and what Tells says of it
+-- Ended t o r        <-> r says the refusal of the reading o, or the place after what was read
+-- ScannedOne t left from r <-> r says this, and the leaves so far, of the element template after `from`, with so many depths left
+-- ScannedAll t left n from r <-> this of n of them
+-- afterLeaf from size == what is said of a leaf of so many bytes after `from`: a 65th is 8
 -- Answered o r       <-> r is the number for the whole reading o: the refusal's, never 0; or 0 where o is accepted
 -- ElementHere t at   <-> an element template at depth 1 stands at `at`, with all that it holds
 -- LeafHere t at      <-> a leaf stands at `at`
 -- LeafSays f t at a next <-> for the leaf l that stands at `at`: a is f l, and `next` is the place after it
--- leavesTo c         == the leaves so far; noCount a == 0, where nothing is counted
+-- leavesTo c         == the leaves so far
 -- Assumes nothing: these are definitions.
 use mathlib.Core.Path.{_≡_}
-use mathlib.Core.Bool.{Bool}
+use mathlib.Core.Bool.{Bool, true, false, _||_, cond}
 use mathlib.Core.List.{List, []}
-use Prim.Native.Nat.{ℕ, _≤_, _<_}
-use lib.ListN.{length, drop}
-use Rattle.grammar.specs.Element.{Elem}
+use Prim.Native.Nat.{ℕ, _+_, _-_, _/_, _%_, _≤_, _<_}
+use lib.Dec.{ltb, eqb}
+use lib.ListN.{length, getD, drop}
+use Rattle.grammar.specs.Element.{Elem, Elems}
 use Rattle.grammar.specs.Record.{Head, fault, leafHere, group, head}
 use Rattle.grammar.specs.Leaf.{Leaf, leafHead}
 use Rattle.grammar.specs.Read.{Read, refuse, got}
-use Rattle.grammar.specs.Reading.{Counted, counted, outermost}
+use Rattle.grammar.specs.Reading.{Counted, counted, many, elem, outermost}
 
-pub data HeadAt {L : Type 0} (t : List ℕ) (h : Head L) (code n next : ℕ) : Type 0 where
-  faulty : h ≡ fault code → 0 < code → HeadAt t h code n next
-  aLeaf : (l : L) → h ≡ leafHere l (drop next t) → code ≡ 0 → n ≡ 0 → next ≤ length t → HeadAt t h code n next
-  aGroup : (c : Bool) → h ≡ group c n (drop next t) → code ≡ 0 → 0 < n → next ≤ length t → HeadAt t h code n next
+abbrev pub faultIn : ℕ → ℕ
+faultIn r = r - 16777215
 
-pub data Scanned {A : Type 0} (countOf : A → ℕ) (t : List ℕ) (o : Read A) (code next count : ℕ) : Type 0 where
-  refused : o ≡ refuse code → 0 < code → Scanned countOf t o code next count
-  read : (a : A) → o ≡ got a (drop next t) → code ≡ 0 → countOf a ≡ count → next ≤ length t → Scanned countOf t o code next count
+abbrev pub placeIn : ℕ → ℕ
+placeIn r = r % 65536
+
+abbrev pub leavesIn : ℕ → ℕ
+leavesIn r = r / 65536
+
+abbrev pub Place : List ℕ → ℕ → Type 0
+Place t at = (at ≤ length t) × (length t < 65536)
+
+abbrev pub From : List ℕ → ℕ → Type 0
+From t from = Place t (placeIn from) × (from ≤ 16777215)
+
+abbrev pub groupKind : ℕ → Bool
+groupKind kind = eqb kind 0x04 || eqb kind 0x05
+
+pub data HeadAt {L : Type 0} (t : List ℕ) (at : ℕ) (h : Head L) (r : ℕ) : Type 0 where
+  faulty : h ≡ fault (faultIn r) → 0 < faultIn r → faultIn r < 256 → HeadAt t at h r
+  aLeaf : (l : L) → h ≡ leafHere l (drop r t) → groupKind (getD t at 0) ≡ false → at ≤ r → r ≤ length t → HeadAt t at h r
+  aGroup : (c : Bool) → h ≡ group c (getD t (at + 1) 0) (drop r t) → groupKind (getD t at 0) ≡ true → r ≡ at + 2 → r ≤ length t → HeadAt t at h r
+
+pub data Noted {A : Type 0} (Tells : A → Type 0) (t : List ℕ) (o : Read A) (code next : ℕ) : Type 0 where
+  stopped : o ≡ refuse code → 0 < code → code < 256 → Noted Tells t o code next
+  noted : (a : A) → o ≡ got a (drop next t) → code ≡ 0 → Tells a → next ≤ length t → Noted Tells t o code next
+
+abbrev pub Ended : {A : Type 0} → List ℕ → Read A → ℕ → Type 0
+Ended t o r = Noted (λ a. Unit {0}) t o (faultIn r) r
 
 pub data Answered {A : Type 0} (o : Read A) (r : ℕ) : Type 0 where
   rejected : o ≡ refuse r → 0 < r → Answered o r
@@ -36,8 +66,14 @@ pub data Answered {A : Type 0} (o : Read A) (r : ℕ) : Type 0 where
 unfoldable pub leavesTo : {A : Type 0} → Counted A → ℕ
 leavesTo (counted a k) = k
 
-abbrev pub noCount : {A : Type 0} → A → ℕ
-noCount a = 0
+abbrev pub ScannedOne : List ℕ → ℕ → ℕ → ℕ → Type 0
+ScannedOne t left from r = Noted (λ (c : Counted (Elem Leaf)). leavesTo c ≡ leavesIn r) t (elem leafHead left (leavesIn from) (drop (placeIn from) t)) (faultIn r) (placeIn r)
+
+abbrev pub ScannedAll : List ℕ → ℕ → ℕ → ℕ → ℕ → Type 0
+ScannedAll t left n from r = Noted (λ (c : Counted (Elems Leaf)). leavesTo c ≡ leavesIn r) t (many (elem leafHead left) n (leavesIn from) (drop (placeIn from) t)) (faultIn r) (placeIn r)
+
+abbrev pub afterLeaf : ℕ → ℕ → ℕ
+afterLeaf from size = cond (ltb 63 (leavesIn from)) (16777215 + 8) (from + 65536 + size)
 
 pub record ElementHere (t : List ℕ) (at : ℕ) : Type 0 where
   pub inside : at ≤ length t

@@ -1,12 +1,13 @@
-// Element templates: which bytes are one, and by which number any others are refused.
+// Element templates: which bytes are one, and by which number any others are refused. A scan answers by one number: the place after what it
+// read, or above FAULT the number of the refusal.
 ghost use mathlib.Core.Path.{_≡_};
-ghost use mathlib.Core.Bool.{Bool};
-ghost use Prim.Native.Nat.{_<_, _≤_};
-ghost use lib.ListN.{length, drop};
+ghost use mathlib.Core.Bool.{Bool, true};
+ghost use Prim.Native.Nat.{_+_, _<_, _≤_};
+ghost use lib.ListN.{length, getD, drop};
 ghost use Rattle.grammar.specs.Leaf.{Leaf, leafHead};
 ghost use Rattle.grammar.specs.Record.{countFault, groupHead, head};
-ghost use Rattle.grammar.specs.Reading.{many, elem, readElement};
-ghost use Rattle.elements.specs.Contract.{HeadAt, Scanned, leavesTo, Answered};
+ghost use Rattle.grammar.specs.Reading.{outermost, readElement};
+ghost use Rattle.elements.specs.Contract.{Place, groupKind, HeadAt, From, ScannedAll, afterLeaf, Ended, Answered};
 use format::ANY;
 use format::ANY_SIZE;
 use format::BAD_BOUNDS;
@@ -16,8 +17,10 @@ use format::COMPLEMENT;
 use format::COUNT_SIZE;
 use format::DEPTH_MOST;
 use format::DONE;
+use format::FAULT;
 use format::GROUP_MOST;
 use format::LAST_LEAF;
+use format::LEAF;
 use format::LEFT_OVER;
 use format::LIST;
 use format::MISSING;
@@ -31,11 +34,18 @@ use format::TOO_LONG;
 use format::TOO_MANY;
 use integers::int_at;
 
-// One record of an element template: its own fault, or 0; the members that follow, 0 for a leaf; the place after the record.
-pub struct Head {
-    pub code: u8,
-    pub n: u8,
-    pub next: usize,
+// The answer that says this refusal.
+pub fn refusal(code: u8) -> usize
+    ensures { λ r. ⌜ r ≡ 16777215 + code ⌝ }
+{
+    FAULT + code as usize
+}
+
+// Whether a record of this kind has members: a list or a complement.
+pub fn is_group(kind: u8) -> bool
+    ensures { λ r. ⌜ r ≡ groupKind kind ⌝ }
+{
+    (kind == LIST) | (kind == COMPLEMENT)
 }
 
 // The fault of the record at `at`, whose body is one byte n from lo to hi.
@@ -56,173 +66,113 @@ pub fn count_fault(t: &[u8], at: usize, lo: u8, hi: u8) -> u8
     DONE
 }
 
-// The list or the complement at `at`.
-fn group_at(t: &[u8], at: usize) -> Head
-    requires { ⌜ at ≤ length (now t) ⌝ }
-    ensures { λ r. ⌜ ((c : Bool) → HeadAt {L = Leaf} (now (t .entry)) (groupHead c (drop at (now (t .entry)))) (r .code) (r .n) (r .next)) ⌝ }
+// The place after the record of the list or the complement at `at`, or its fault.
+fn group_head_end(t: &[u8], at: usize) -> usize
+    requires { ⌜ Place (now t) at ⌝ }
+    ensures { λ r. ⌜ ((c : Bool) → groupKind (getD (now (t .entry)) at 0) ≡ true → HeadAt {L = Leaf} (now (t .entry)) at (groupHead c (drop at (now (t .entry)))) r) ⌝ }
 {
     let code = count_fault(t, at, 1, GROUP_MOST);
     if code != DONE {
-        return Head {
-            code,
-            n: 0,
-            next: at,
-        };
+        return refusal(code);
     }
-    Head {
-        code: DONE,
-        n: t[at + 1],
-        next: at + COUNT_SIZE,
-    }
+    at + COUNT_SIZE
 }
 
-// The leaf at `at`.
-fn leaf_at(t: &[u8], at: usize) -> Head
-    requires { ⌜ at < length (now t) ⌝ }
-    ensures { λ r. ⌜ HeadAt (now (t .entry)) (leafHead (drop at (now (t .entry)))) (r .code) (r .n) (r .next) ⌝ }
+// The place after the leaf at `at`, or its fault.
+fn leaf_end(t: &[u8], at: usize) -> usize
+    requires { ⌜ (at < length (now t)) × (length (now t) < 65536) ⌝ }
+    ensures { λ r. ⌜ HeadAt (now (t .entry)) at (leafHead (drop at (now (t .entry)))) r ⌝ }
 {
     let kind = t[at];
     let room = t.len() - at;
     if kind == SINGLE {
         if room < SINGLE_SIZE {
-            return Head {
-                code: MISSING,
-                n: 0,
-                next: at,
-            };
+            return refusal(MISSING);
         }
-        return Head {
-            code: DONE,
-            n: 0,
-            next: at + SINGLE_SIZE,
-        };
+        return at + SINGLE_SIZE;
     }
     if kind == RANGE {
         if room < RANGE_SIZE {
-            return Head {
-                code: MISSING,
-                n: 0,
-                next: at,
-            };
+            return refusal(MISSING);
         }
         if int_at(t, at + 5) < int_at(t, at + 1) {
-            return Head {
-                code: BAD_BOUNDS,
-                n: 0,
-                next: at,
-            };
+            return refusal(BAD_BOUNDS);
         }
-        return Head {
-            code: DONE,
-            n: 0,
-            next: at + RANGE_SIZE,
-        };
+        return at + RANGE_SIZE;
     }
     if kind == ANY {
-        return Head {
-            code: DONE,
-            n: 0,
-            next: at + ANY_SIZE,
-        };
+        return at + ANY_SIZE;
     }
-    Head {
-        code: BAD_KIND,
-        n: 0,
-        next: at,
-    }
+    refusal(BAD_KIND)
 }
 
-// The element template's record at `at`.
-pub fn head_at(t: &[u8], at: usize) -> Head
-    requires { ⌜ at ≤ length (now t) ⌝ }
-    ensures { λ r. ⌜ HeadAt (now (t .entry)) (head leafHead (drop at (now (t .entry)))) (r .code) (r .n) (r .next) ⌝ }
+// The place after the element template's record at `at`, or its own fault.
+pub fn head_end(t: &[u8], at: usize) -> usize
+    requires { ⌜ Place (now t) at ⌝ }
+    ensures { λ r. ⌜ HeadAt (now (t .entry)) at (head leafHead (drop at (now (t .entry)))) r ⌝ }
 {
     if at == t.len() {
-        return Head {
-            code: MISSING,
-            n: 0,
-            next: at,
-        };
+        return refusal(MISSING);
     }
-    let kind = t[at];
-    if kind == LIST {
-        return group_at(t, at);
+    if is_group(t[at]) {
+        return group_head_end(t, at);
     }
-    if kind == COMPLEMENT {
-        return group_at(t, at);
-    }
-    leaf_at(t, at)
+    leaf_end(t, at)
 }
 
-// What a scan found: a refusal, or 0; the place after what was read; the leaves, or the members, so far.
-pub struct Scan {
-    pub code: u8,
-    pub next: usize,
-    pub count: usize,
-}
-
-// The element template at `at`, with so many leaves before it and so many depths left.
-pub fn scan_one(t: &[u8], at: usize, leaves: usize, left: usize) -> Scan
-    requires { ⌜ at ≤ length (now t) ⌝ }
-    ensures { λ r. ⌜ Scanned leavesTo (now (t .entry)) (elem leafHead left leaves (drop at (now (t .entry)))) (r .code) (r .next) (r .count) ⌝ }
+// A leaf of so many bytes after the place and the leaves `from`.
+fn past_leaf(from: usize, size: usize) -> usize
+    requires { ⌜ (from ≤ 16777215) × (size < 65536) ⌝ }
+    ensures { λ r. ⌜ r ≡ afterLeaf from size ⌝ }
 {
-    let h = head_at(t, at);
-    let code = h.code;
-    let next = h.next;
-    if code != DONE {
-        return Scan {
-            code,
-            next: at,
-            count: 0,
-        };
+    if LAST_LEAF < from / LEAF {
+        return refusal(TOO_MANY);
     }
-    if left == 0 {
-        return Scan {
-            code: TOO_DEEP,
-            next: at,
-            count: 0,
-        };
-    }
-    let n = h.n;
-    if n != 0 {
-        return scan_all(t, next, n as usize, leaves, left - 1);
-    }
-    if LAST_LEAF < leaves {
-        return Scan {
-            code: TOO_MANY,
-            next: at,
-            count: 0,
-        };
-    }
-    Scan {
-        code: DONE,
-        next,
-        count: leaves + 1,
-    }
+    from + LEAF + size
 }
 
-// n element templates at `at`.
-fn scan_all(t: &[u8], at: usize, n: usize, leaves: usize, left: usize) -> Scan
-    requires { ⌜ at ≤ length (now t) ⌝ }
-    ensures { λ r. ⌜ Scanned leavesTo (now (t .entry)) (many (elem leafHead left) n leaves (drop at (now (t .entry)))) (r .code) (r .next) (r .count) ⌝ }
+// n element templates after the place and the leaves `from`, with so many depths left. A leaf is read here; what has members is a call.
+fn scan_all(t: &[u8], from: usize, n: usize, left: usize) -> usize
+    requires { ⌜ From (now t) from ⌝ }
+    ensures { λ r. ⌜ ScannedAll (now (t .entry)) left n from r ⌝ }
 {
-    let mut p = at;
-    let mut k = leaves;
+    let mut s = from;
     let mut more = n;
     while 0 < more {
-        let s = scan_one(t, p, k, left);
-        if s.code != DONE {
+        let at = s % LEAF;
+        let end = head_end(t, at);
+        if FAULT < end {
+            return end;
+        }
+        if left == 0 {
+            return refusal(TOO_DEEP);
+        }
+        s = if is_group(t[at]) {
+            scan_all(t, s + COUNT_SIZE, t[at + 1] as usize, left - 1)
+        } else {
+            past_leaf(s, end - at)
+        };
+        if FAULT < s {
             return s;
         }
-        p = s.next;
-        k = s.count;
         more -= 1;
     }
-    Scan {
-        code: DONE,
-        next: p,
-        count: k,
+    s
+}
+
+// The place after the element template at `at`, whose record ends at `end`, or the refusal of what it holds.
+pub fn rest_end(t: &[u8], at: usize, end: usize) -> usize
+    requires { ⌜ Place (now t) at × HeadAt (now t) at (head leafHead (drop at (now t))) end × (end ≤ 16777215) ⌝ }
+    ensures { λ r. ⌜ Ended (now (t .entry)) (outermost leafHead (drop at (now (t .entry)))) r ⌝ }
+{
+    if !is_group(t[at]) {
+        return end;
     }
+    let s = scan_all(t, end, t[at + 1] as usize, DEPTH_MOST - 1);
+    if FAULT < s {
+        return s;
+    }
+    s % LEAF
 }
 
 // The number for t as one element template by itself.
@@ -232,11 +182,15 @@ pub fn scan_element(t: &[u8]) -> u8
     if TEMPLATE_MOST < t.len() {
         return TOO_LONG;
     }
-    let s = scan_one(t, 0, 0, DEPTH_MOST);
-    if s.code != DONE {
-        return s.code;
+    let head = head_end(t, 0);
+    if FAULT < head {
+        return (head - FAULT) as u8;
     }
-    if s.next < t.len() {
+    let end = rest_end(t, 0, head);
+    if FAULT < end {
+        return (end - FAULT) as u8;
+    }
+    if end < t.len() {
         return LEFT_OVER;
     }
     DONE

@@ -73,25 +73,21 @@ intAt-intBytes z s p = ap signed (joined-four (bits z) (bits-word z p)) ∙ sign
 digit : (a q : ℕ) → a < 256 → ((a + 256 * q) % 256 ≡ a) × ((a + 256 * q) / 256 ≡ q)
 digit a q p = omega arith
 
+-- the bytes of the number that four bytes say are those four
+pub bytes-joined : (a b c d : ℕ) → a < 256 → b < 256 → c < 256 → d < 256
+    → (joined a b c d % 256 ≡ a) × (joined a b c d / 256 % 256 ≡ b) × (joined a b c d / 65536 % 256 ≡ c) × (joined a b c d / 16777216 % 256 ≡ d)
+bytes-joined a b c d pa pb pc pd =
+    let q₁ : joined a b c d / 256 ≡ b + c * 256 + d * 65536 = omega arith in
+    let q₂ : joined a b c d / 65536 ≡ c + d * 256 = omega arith in
+    let q₃ : joined a b c d / 16777216 ≡ d = omega arith in
+    (omega arith, rw q₁ (omega arith), rw q₂ (omega arith), rw q₃ (omega arith))
+
 -- four bytes are those of the integer that they say
 pub intBytes-signed : (a b c d : ℕ) → a < 256 → b < 256 → c < 256 → d < 256 → intBytes (signed (joined a b c d)) ≡ a ∷ b ∷ c ∷ d ∷ []
 unfolding intBytes
 intBytes-signed a b c d pa pb pc pd =
-    ap fourBytes (bits-signed u (omega arith)) ∙ four
-  where
-    u : ℕ
-    u = joined a b c d
-
-    four : fourBytes u ≡ a ∷ b ∷ c ∷ d ∷ []
-    four =
-        let e₀ : u % 256 ≡ a = omega arith in
-        let q₁ : u / 256 ≡ b + c * 256 + d * 65536 = omega arith in
-        let e₁ : u / 256 % 256 ≡ b = rw q₁ (omega arith) in
-        let q₂ : u / 65536 ≡ c + d * 256 = omega arith in
-        let e₂ : u / 65536 % 256 ≡ c = rw q₂ (omega arith) in
-        let q₃ : u / 16777216 ≡ d = omega arith in
-        let e₃ : u / 16777216 % 256 ≡ d = rw q₃ (omega arith) in
-        rw (e₀, e₁, e₂, e₃)
+    let e = bytes-joined a b c d pa pb pc pd in
+    ap fourBytes (bits-signed (joined a b c d) (omega arith)) ∙ rw (e .0, e .1, e .2, e .3)
 
 -- ---- at a place
 
