@@ -78,15 +78,6 @@ bytes-joined a b c d pa pb pc pd =
     let q₃ : joined a b c d / 16777216 ≡ d = omega arith in
     (omega arith, rw q₁ (omega arith), rw q₂ (omega arith), rw q₃ (omega arith))
 
--- the bytes of the number that four bytes say are those four
-pub bytes-joined : (a b c d : ℕ) → a < 256 → b < 256 → c < 256 → d < 256
-    → (joined a b c d % 256 ≡ a) × (joined a b c d / 256 % 256 ≡ b) × (joined a b c d / 65536 % 256 ≡ c) × (joined a b c d / 16777216 % 256 ≡ d)
-bytes-joined a b c d pa pb pc pd =
-    let q₁ : joined a b c d / 256 ≡ b + c * 256 + d * 65536 = omega arith in
-    let q₂ : joined a b c d / 65536 ≡ c + d * 256 = omega arith in
-    let q₃ : joined a b c d / 16777216 ≡ d = omega arith in
-    (omega arith, rw q₁ (omega arith), rw q₂ (omega arith), rw q₃ (omega arith))
-
 -- four bytes are those of the integer that they say
 pub intBytes-signed : (a b c d : ℕ) → a < 256 → b < 256 → c < 256 → d < 256 → intBytes (signed (joined a b c d)) ≡ a ∷ b ∷ c ∷ d ∷ []
 unfolding intBytes
