@@ -13,7 +13,7 @@ use Rattle.grammar.specs.Leaf.{Leaf, leafHead}
 use Rattle.grammar.specs.Record.{Head, fault, leafHere, group, head}
 use Rattle.grammar.specs.Read.{Read, refuse, got}
 use Rattle.grammar.specs.Reading.{Counted, counted, putFirst, thenMore, many, closed, tooDeep, opened, elem, outermost}
-use Rattle.elements.specs.Contract.{faultIn, placeIn, leavesIn, Place, From, groupKind, HeadAt, faulty, aLeaf, aGroup, Noted, stopped, noted, Ended, leavesTo, ScannedOne, ScannedAll, afterLeaf}
+use Rattle.elements.specs.Contract.{faultIn, placeIn, countIn, Place, From, groupKind, HeadAt, faulty, aLeaf, aGroup, Noted, stopped, noted, Ended, leavesTo, ScannedOne, ScannedAll, afterLeaf}
 use Rattle.facts.proofs.Cases.{by-test, below, clash}
 use Rattle.elements.proofs.Records.{head-none}
 
@@ -111,7 +111,7 @@ module _ (t : List ℕ) (left from end : ℕ) (start : From t from) where
   pub one-fault : HeadAt t (placeIn from) (head leafHead (drop (placeIn from) t)) end → 16777215 < end → ScannedOne t left from end
   one-fault h b =
       let v = head-stops t (placeIn from) (head leafHead (drop (placeIn from) t)) end (start .0 .1) h b in
-      stopped (elem-fault leafHead left (leavesIn from) (drop (placeIn from) t) (faultIn end) (v .0)) (omega arith) (v .1)
+      stopped (elem-fault leafHead left (countIn from) (drop (placeIn from) t) (faultIn end) (v .0)) (omega arith) (v .1)
 
   module _ (sound : end ≤ 16777215) where
     pub one-deep : HeadAt t (placeIn from) (head leafHead (drop (placeIn from) t)) end → (r : ℕ) → r ≡ 16777215 + 7 → left ≡ 0 → ScannedOne t left from r
@@ -119,10 +119,10 @@ module _ (t : List ℕ) (left from end : ℕ) (start : From t from) where
     one-deep (faulty q p s) r e z = absurd (omega arith)
     one-deep (aLeaf l q k a i) r e z =
         let f : _≡_ {A = ℕ} 7 (faultIn r) = omega arith in
-        stopped (deep-refused leafHead left (leavesIn from) (drop (placeIn from) t) z ∙ ap tooDeep q ∙ ap refuse f) (omega arith) (omega arith)
+        stopped (deep-refused leafHead left (countIn from) (drop (placeIn from) t) z ∙ ap tooDeep q ∙ ap refuse f) (omega arith) (omega arith)
     one-deep (aGroup c q k g i) r e z =
         let f : _≡_ {A = ℕ} 7 (faultIn r) = omega arith in
-        stopped (deep-refused leafHead left (leavesIn from) (drop (placeIn from) t) z ∙ ap tooDeep q ∙ ap refuse f) (omega arith) (omega arith)
+        stopped (deep-refused leafHead left (countIn from) (drop (placeIn from) t) z ∙ ap tooDeep q ∙ ap refuse f) (omega arith) (omega arith)
 
     module _ (level : 0 < left) where
       -- the members of a list or complement begin two bytes on
@@ -133,27 +133,27 @@ module _ (t : List ℕ) (left from end : ℕ) (start : From t from) where
       one-group (aGroup c q g e i) k r h =
           let place : (from + 2) % 65536 ≡ end = omega (arith, start .0 .1) in
           let same : (from + 2) / 65536 ≡ from / 65536 = omega (arith, start .0 .1) in
-          let h₁ : Noted (λ (a : Counted (Elems Leaf)). leavesTo a ≡ leavesIn r) t (many (elem leafHead (left - 1)) (getD t (placeIn from + 1) 0) (from / 65536) (drop end t)) (faultIn r) (placeIn r) = rw (place, same) at h in
-          rw (group-opens leafHead left (leavesIn from) (drop (placeIn from) t) c (getD t (placeIn from + 1) 0) (drop end t) level q) (closed-noted t c _ (leavesIn r) (faultIn r) (placeIn r) h₁)
+          let h₁ : Noted (λ (a : Counted (Elems Leaf)). leavesTo a ≡ countIn r) t (many (elem leafHead (left - 1)) (getD t (placeIn from + 1) 0) (from / 65536) (drop end t)) (faultIn r) (placeIn r) = rw (place, same) at h in
+          rw (group-opens leafHead left (countIn from) (drop (placeIn from) t) c (getD t (placeIn from + 1) 0) (drop end t) level q) (closed-noted t c _ (countIn r) (faultIn r) (placeIn r) h₁)
 
       pub one-leaf : HeadAt t (placeIn from) (head leafHead (drop (placeIn from) t)) end → groupKind (getD t (placeIn from) 0) ≡ false → (r : ℕ) → r ≡ afterLeaf from (end - placeIn from) → ScannedOne t left from r
       unfolding leavesTo
       one-leaf (faulty q p s) k r e = absurd (omega arith)
       one-leaf (aGroup c q g x i) k r e = absurd (clash g k)
       one-leaf (aLeaf l q g a i) k r e =
-          by-test (ltb 63 (leavesIn from))
+          by-test (ltb 63 (countIn from))
           (λ over.
           let e₁ : r ≡ 16777215 + 8 = rw over at e in
           let f : _≡_ {A = ℕ} 8 (faultIn r) = omega arith in
-          stopped (leaf-over leafHead left (leavesIn from) (drop (placeIn from) t) l (drop end t) level (ltb-true 63 (leavesIn from) over) q ∙ ap refuse f) (omega arith) (omega arith))
+          stopped (leaf-over leafHead left (countIn from) (drop (placeIn from) t) l (drop end t) level (ltb-true 63 (countIn from) over) q ∙ ap refuse f) (omega arith) (omega arith))
           (λ few.
           let e₁ : r ≡ from + 65536 + (end - placeIn from) = rw few at e in
-          let small : from / 65536 ≤ 63 = ltb-false 63 (leavesIn from) few in
+          let small : from / 65536 ≤ 63 = ltb-false 63 (countIn from) few in
           let place : r % 65536 ≡ end = omega (arith, start .0 .1) in
           let count : from / 65536 + 1 ≡ r / 65536 = omega (arith, start .0 .1) in
           let z : faultIn r ≡ 0 = omega (arith, start .0 .1) in
-          let o : elem leafHead left (leavesIn from) (drop (placeIn from) t) ≡ got (counted (leaf l) (from / 65536 + 1)) (drop (placeIn r) t) =
-          leaf-counts leafHead left (leavesIn from) (drop (placeIn from) t) l (drop end t) level small q ∙ ap (λ p. got (counted (leaf l) (from / 65536 + 1)) (drop p t)) (sym place) in
+          let o : elem leafHead left (countIn from) (drop (placeIn from) t) ≡ got (counted (leaf l) (from / 65536 + 1)) (drop (placeIn r) t) =
+          leaf-counts leafHead left (countIn from) (drop (placeIn from) t) l (drop end t) level small q ∙ ap (λ p. got (counted (leaf l) (from / 65536 + 1)) (drop p t)) (sym place) in
           noted (counted (leaf l) (from / 65536 + 1)) o z count (omega arith))
 
 -- ---- several, one after the other
@@ -165,7 +165,7 @@ put-noted t e o k code next (noted (counted es j) q z v i) = noted (counted (mor
 
 module _ (t : List ℕ) (left : ℕ) where
   -- what one makes of the place and leaves so far
-  one-next : (from s : ℕ) → ScannedOne t left from s → s ≤ 16777215 → (e : Elem Leaf) × (elem leafHead left (leavesIn from) (drop (placeIn from) t) ≡ got (counted e (leavesIn s)) (drop (placeIn s) t)) × (placeIn s ≤ length t)
+  one-next : (from s : ℕ) → ScannedOne t left from s → s ≤ 16777215 → (e : Elem Leaf) × (elem leafHead left (countIn from) (drop (placeIn from) t) ≡ got (counted e (countIn s)) (drop (placeIn s) t)) × (placeIn s ≤ length t)
   unfolding leavesTo
   one-next from s (stopped q p b) l = absurd (omega arith)
   one-next from s (noted (counted e j) q z v i) l = (e, q ∙ ap (λ k. got (counted e k) (drop (placeIn s) t)) v, i)
@@ -180,7 +180,7 @@ module _ (t : List ℕ) (left : ℕ) where
       let v = one-next from s h l in
       let down : suc n - 1 ≡ n = omega arith in
       let g₁ : ScannedAll t left n s r = rw down at g in
-      rw (v .1) (put-noted t (v .0) _ (leavesIn r) (faultIn r) (placeIn r) g₁)
+      rw (v .1) (put-noted t (v .0) _ (countIn r) (faultIn r) (placeIn r) g₁)
 
   pub all-stop : (n from s : ℕ) → 0 < n → ScannedOne t left from s → 16777215 < s → ScannedAll t left n from s
   unfolding many thenMore
@@ -191,7 +191,7 @@ module _ (t : List ℕ) (left : ℕ) where
 
   pub all-end : (n from : ℕ) → n ≡ 0 → From t from → ScannedAll t left n from from
   unfolding many leavesTo
-  all-end zero from e f = noted (counted none (leavesIn from)) refl (omega (arith, f .1)) refl (f .0 .0)
+  all-end zero from e f = noted (counted none (countIn from)) refl (omega (arith, f .1)) refl (f .0 .0)
   all-end (suc n) from e f = absurd (omega arith)
 
 -- ---- an element template at depth 1, after its record
@@ -209,14 +209,14 @@ module _ (t : List ℕ) (at end : ℕ) (short : length t < 65536) where
     leaf-ended (aLeaf l q g a i) k = noted _ (leaf-counts leafHead 8 0 (drop at t) l (drop end t) (omega arith) (omega arith) q) (omega arith) tt i
 
     module _ (r : ℕ) (held : ScannedAll t 7 (getD t (at + 1) 0) end r) where
-      outer : HeadAt t at (head leafHead (drop at t)) end → groupKind (getD t at 0) ≡ true → Noted (λ (a : Counted (Elem Leaf)). leavesTo a ≡ leavesIn r) t (outermost leafHead (drop at t)) (faultIn r) (placeIn r)
+      outer : HeadAt t at (head leafHead (drop at t)) end → groupKind (getD t at 0) ≡ true → Noted (λ (a : Counted (Elem Leaf)). leavesTo a ≡ countIn r) t (outermost leafHead (drop at t)) (faultIn r) (placeIn r)
       outer (faulty q p s) k = absurd (omega arith)
       outer (aLeaf l q g a i) k = absurd (clash k g)
       outer (aGroup c q g e i) k =
           let place : end % 65536 ≡ end = omega arith in
           let none-yet : end / 65536 ≡ 0 = omega arith in
-          let h₁ : Noted (λ (a : Counted (Elems Leaf)). leavesTo a ≡ leavesIn r) t (many (elem leafHead 7) (getD t (at + 1) 0) 0 (drop end t)) (faultIn r) (placeIn r) = rw (place, none-yet) at held in
-          rw (group-opens leafHead 8 0 (drop at t) c (getD t (at + 1) 0) (drop end t) (omega arith) q) (closed-noted t c _ (leavesIn r) (faultIn r) (placeIn r) h₁)
+          let h₁ : Noted (λ (a : Counted (Elems Leaf)). leavesTo a ≡ countIn r) t (many (elem leafHead 7) (getD t (at + 1) 0) 0 (drop end t)) (faultIn r) (placeIn r) = rw (place, none-yet) at held in
+          rw (group-opens leafHead 8 0 (drop at t) c (getD t (at + 1) 0) (drop end t) (omega arith) q) (closed-noted t c _ (countIn r) (faultIn r) (placeIn r) h₁)
 
       pub group-stopped : HeadAt t at (head leafHead (drop at t)) end → groupKind (getD t at 0) ≡ true → 16777215 < r → Ended t (outermost leafHead (drop at t)) r
       group-stopped h k b = let v = noted-stopped _ _ _ _ _ (outer h k) (omega arith) in stopped (v .0) (omega arith) (v .1)

@@ -1,6 +1,7 @@
 -- What the functions say. A place is an index into the whole input t; what stands there is `drop place t`.
--- A scan answers by one number r. Up to 16,777,215 it is a place and, 65,536 for each, the leaves before that place; above it says a refusal.
--- faultIn r           == the number of the refusal that r says, 0 where it says none; placeIn r, leavesIn r == the place, and the leaves, that r says
+-- A scan answers by one number r. Up to 16,777,215 it is a place and, 65,536 for each, what was counted up to it, leaves or members; above it says
+-- a refusal.
+-- faultIn r           == the number of the refusal that r says, 0 where it says none; placeIn r, countIn r == the place, and the count, that r says
 -- Place t at         <-> `at` is a place of t, and t is short enough for its places to be said so
 -- From t from        <-> `from` says a place of such a t, and no refusal
 -- groupKind kind      == a record of this kind has members: a list or a complement
@@ -35,8 +36,8 @@ faultIn r = r - 16777215
 abbrev pub placeIn : ℕ → ℕ
 placeIn r = r % 65536
 
-abbrev pub leavesIn : ℕ → ℕ
-leavesIn r = r / 65536
+abbrev pub countIn : ℕ → ℕ
+countIn r = r / 65536
 
 abbrev pub Place : List ℕ → ℕ → Type 0
 Place t at = (at ≤ length t) × (length t < 65536)
@@ -67,13 +68,13 @@ unfoldable pub leavesTo : {A : Type 0} → Counted A → ℕ
 leavesTo (counted a k) = k
 
 abbrev pub ScannedOne : List ℕ → ℕ → ℕ → ℕ → Type 0
-ScannedOne t left from r = Noted (λ (c : Counted (Elem Leaf)). leavesTo c ≡ leavesIn r) t (elem leafHead left (leavesIn from) (drop (placeIn from) t)) (faultIn r) (placeIn r)
+ScannedOne t left from r = Noted (λ (c : Counted (Elem Leaf)). leavesTo c ≡ countIn r) t (elem leafHead left (countIn from) (drop (placeIn from) t)) (faultIn r) (placeIn r)
 
 abbrev pub ScannedAll : List ℕ → ℕ → ℕ → ℕ → ℕ → Type 0
-ScannedAll t left n from r = Noted (λ (c : Counted (Elems Leaf)). leavesTo c ≡ leavesIn r) t (many (elem leafHead left) n (leavesIn from) (drop (placeIn from) t)) (faultIn r) (placeIn r)
+ScannedAll t left n from r = Noted (λ (c : Counted (Elems Leaf)). leavesTo c ≡ countIn r) t (many (elem leafHead left) n (countIn from) (drop (placeIn from) t)) (faultIn r) (placeIn r)
 
 abbrev pub afterLeaf : ℕ → ℕ → ℕ
-afterLeaf from size = cond (ltb 63 (leavesIn from)) (16777215 + 8) (from + 65536 + size)
+afterLeaf from size = cond (ltb 63 (countIn from)) (16777215 + 8) (from + 65536 + size)
 
 pub record ElementHere (t : List ℕ) (at : ℕ) : Type 0 where
   pub inside : at ≤ length t

@@ -20,10 +20,10 @@ use format::DONE;
 use format::FAULT;
 use format::GROUP_MOST;
 use format::LAST_LEAF;
-use format::LEAF;
 use format::LEFT_OVER;
 use format::LIST;
 use format::MISSING;
+use format::ONE_MORE;
 use format::RANGE;
 use format::RANGE_SIZE;
 use format::SINGLE;
@@ -125,10 +125,10 @@ fn past_leaf(from: usize, size: usize) -> usize
     requires { ⌜ (from ≤ 16777215) × (size < 65536) ⌝ }
     ensures { λ r. ⌜ r ≡ afterLeaf from size ⌝ }
 {
-    if LAST_LEAF < from / LEAF {
+    if LAST_LEAF < from / ONE_MORE {
         return refusal(TOO_MANY);
     }
-    from + LEAF + size
+    from + ONE_MORE + size
 }
 
 // n element templates after the place and the leaves `from`, with so many depths left. A leaf is read here; what has members is a call.
@@ -139,7 +139,7 @@ fn scan_all(t: &[u8], from: usize, n: usize, left: usize) -> usize
     let mut s = from;
     let mut more = n;
     while 0 < more {
-        let at = s % LEAF;
+        let at = s % ONE_MORE;
         let end = head_end(t, at);
         if FAULT < end {
             return end;
@@ -172,7 +172,7 @@ pub fn rest_end(t: &[u8], at: usize, end: usize) -> usize
     if FAULT < s {
         return s;
     }
-    s % LEAF
+    s % ONE_MORE
 }
 
 // The number for t as one element template by itself.

@@ -102,9 +102,8 @@ pub const INFINITY: u8 = 255;
 
 pub const SPARE: u8 = 255;
 
-// ---- what a scan answers, in one number: the place after what it read and, 65,536 for each, the leaves before that place; or above FAULT, by
-// the refusal's number, that it stopped
-pub const LEAF: usize = 0x1_0000;
+// ---- what a scan answers, in one number: a place and, ONE_MORE for each, what was counted up to it; or above FAULT a refusal's number
+pub const ONE_MORE: usize = 0x1_0000;
 
 pub const FAULT: usize = 0xff_ffff;
 

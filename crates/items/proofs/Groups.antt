@@ -1,84 +1,110 @@
 -- The members of a set of, permutation, superset or subset, one item after another, and what is noted of them. Assumes nothing.
-use mathlib.Core.Path.{_≡_, refl, sym, ap, ap₂, _∙_, subst}
-use mathlib.Core.Bool.{Bool, true, false, _&&_, cond}
+use mathlib.Core.Path.{_≡_, refl, sym, ap, ap₂, _∙_}
+use mathlib.Core.Bool.{Bool, true, false, not, _&&_, cond}
+use mathlib.Core.Logic.{⊎-elim}
 use mathlib.Core.List.{List, [], _∷_}
 use Prim.Native.Nat.{ℕ, zero, suc, _+_, _-_, _≤_, _<_}
 use native.Mathlib.Omega.{arith}
-use lib.Dec.{eqb}
+use borrow.Author.Tests.{lt-ltb, eq-eqb, ne-eqb}
+use lib.Dec.{ltb, eqb}
 use lib.ListN.{length, getD, drop, set}
-use lib.Seq.{getD-drop}
 use Rattle.grammar.specs.Element.{Elem}
 use Rattle.grammar.specs.Template.{Star, noStar, star, Group, grouped, membersOfGroup}
-use Rattle.grammar.specs.Record.{kindOf}
+use Rattle.grammar.specs.Record.{Head, fault, leafHere, group, kindOf, head}
 use Rattle.grammar.specs.Leaf.{Leaf, leafHead}
-use Rattle.grammar.specs.Read.{Read, refuse, got}
-use Rattle.grammar.specs.Reading.{counted, uncounted, elem}
-use Rattle.grammar.specs.Whole.{hasStar, starHere, putMember, thenMembers, thenStar, member, members}
-use Rattle.grammar.specs.Blocks.{minOf, maxOf}
-use Rattle.elements.specs.Contract.{Scanned, refused, read, leavesTo, noCount}
-use Rattle.items.specs.Notes.{Noted, stopped, noted, MemberNotes, GroupNotes, StarStepped, Stepped, stepStar, stepMember}
-use Rattle.items.specs.declared.group.Several.{Several}
-use Rattle.elements.proofs.Scans.{scanned-refused, scanned-read}
-use Rattle.items.proofs.ItemRecords.{star-inv, member-low}
-use Rattle.items.proofs.MemberPlaces.{noted-stopped, noted-read, noted-as, placed-none, placed-one, placed-then}
+use Rattle.grammar.specs.Read.{Read, refuse, got, orRefuse}
+use Rattle.grammar.specs.Reading.{counted, uncounted, outermost}
+use Rattle.grammar.specs.Whole.{hasStar, starHere, numbered, putMember, thenMembers, thenStar, member, members}
+use Rattle.grammar.specs.Blocks.{minOf, maxOf, blockOfGroup}
+use Rattle.blocks.specs.Numbers.{block, numberOf}
+use Rattle.elements.specs.Contract.{faultIn, Noted, stopped, noted, Ended}
+use Rattle.elements.proofs.Scans.{noted-stopped, noted-read}
+use Rattle.items.specs.Notes.{Placed, MemberNotes, StarNotes, starOf, groupBlock, Says, GroupNotes}
+use Rattle.items.proofs.ItemRecords.{member-low}
+use Rattle.items.proofs.MemberPlaces.{noted-as, stopped-on, placed-none, placed-one, placed-then}
+use Rattle.facts.proofs.Cases.{below}
 use Rattle.grammar.proofs.ReadApart.{clash}
 use Rattle.grammar.proofs.MemberLimit.{members-limit}
 
--- ---- a 20
-
--- what a 20 that was accepted says
-pub star-told : (t : List ℕ) (at : ℕ) (seen : Bool) (code : ℕ) → Scanned noCount t (starHere seen (drop at t)) code (at + 3) 0 → code ≡ 0
-    → (starHere seen (drop at t) ≡ got (star (getD t (at + 1) 0) (getD t (at + 2) 0)) (drop (at + 3) t)) × (at + 3 ≤ length t)
-star-told t at seen code s z =
-    let r = scanned-read _ _ _ _ _ _ s z in
-    let e : r .0 ≡ star (getD t (at + 1) 0) (getD t (at + 2) 0) = star-inv seen (drop at t) (r .0) (drop (at + 3) t) (r .1) ∙ ap₂ star (getD-drop at t 1 0) (getD-drop at t 2 0) in
-    (r .1 ∙ ap (λ (st : Star). got st (drop (at + 3) t)) e, r .3)
-
-module _ (t : List ℕ) (sofar : Several) (code : ℕ) (s : Scanned noCount t (starHere (sofar .seen) (drop (sofar .next) t)) code (sofar .next + 3) 0) where
-  pub set-star-stopped : (code ≡ 0 → ⊥) → (next min max : ℕ) → StarStepped t sofar (record { code = code; next = next; count = sofar .count; seen = true; min = min; max = max })
-  set-star-stopped z next min max = let r = scanned-refused _ _ _ _ _ _ s z in record { reads = stopped (r .0) (r .1); count = refl; seen = refl }
-
-  pub set-star-right : code ≡ 0
-      → StarStepped t sofar (record { code = 0; next = sofar .next + 3; count = sofar .count; seen = true; min = getD t (sofar .next + 1) 0; max = getD t (sofar .next + 2) 0 })
-  set-star-right z = let r = star-told t (sofar .next) (sofar .seen) code s z in record { reads = noted _ (r .0) refl refl (r .1); count = refl; seen = refl }
-
 -- ---- a member
 
--- the place of the member m is noted before it is read
-pub member-noted : (t : List ℕ) (at m code next k : ℕ) (before : List ℕ) → at ≤ length t → m ≤ 31 → length before ≡ 32 → Scanned leavesTo t (elem leafHead 8 0 (drop at t)) code next k
-    → Noted (MemberNotes t m before (m + 1) (set before m at)) t (member leafHead m (drop at t)) code next
+-- the place of the member m is noted
+pub member-noted : (t : List ℕ) (at m r : ℕ) (before : List ℕ) → at ≤ length t → m ≤ 31 → length before ≡ 32 → Ended t (outermost leafHead (drop at t)) r
+    → Noted (MemberNotes t m before (set before m at)) t (member leafHead m (drop at t)) (faultIn r) r
 unfolding uncounted
-member-noted t at m code next k before f l size (refused q p) = stopped (member-low leafHead m (drop at t) l ∙ ap uncounted q) p
-member-noted t at m code next k before f l size (read (counted e j) q z v i) =
+member-noted t at m r before f l size (stopped q p s) = stopped (member-low leafHead m (drop at t) l ∙ ap uncounted q) p s
+member-noted t at m r before f l size (noted (counted e j) q z v i) =
     noted e (member-low leafHead m (drop at t) l ∙ ap uncounted q) z
-    (placed-one t m before e at (omega arith) (record { inside = f; leaves = j; rest = drop next t; reads = q })) i
+    (placed-one t m before e at (omega arith) (record { inside = f; leaves = j; rest = drop r t; reads = q })) i
+
+-- a member that was read is one of 32
+member-few : (m : ℕ) (s : List ℕ) (e : Elem Leaf) (rest : List ℕ) → member leafHead m s ≡ got e rest → m ≤ 31
+unfolding member numbered
+member-few m s e rest q = ⊎-elim (λ (h : 31 < m). absurd (go (head leafHead s) h q)) (λ (h : m ≤ 31). h) (below 31 m)
+  where
+    over : (o : Read (Elem Leaf)) → 31 < m → orRefuse (ltb 31 m) 8 o ≡ got e rest → ⊥
+    over o l p = let z : orRefuse (ltb 31 m) 8 o ≡ refuse 8 = rw (lt-ltb 31 m l) in clash (sym z ∙ p)
+
+    go : (h : Head Leaf) → 31 < m → numbered m h (uncounted (outermost leafHead s)) ≡ got e rest → ⊥
+    go (fault r) l p = clash p
+    go (leafHere v s′) l p = over _ l p
+    go (group c n s′) l p = over _ l p
+
+-- ---- the 20 so far
+
+-- the min and max of the 20 st stand at `at`, or `at` is 0 and there is none
+pub data StarAt (t : List ℕ) (at : ℕ) (st : Star) : Type 0 where
+  noneThere : at ≡ 0 → st ≡ noStar → StarAt t at st
+  oneThere : 0 < at → at + 2 ≤ length t → st ≡ star (getD t at 0) (getD t (at + 1) 0) → StarAt t at st
+
+star-seen : (t : List ℕ) (at : ℕ) (st : Star) → StarAt t at st → hasStar st ≡ not (eqb at 0)
+star-seen t at st (noneThere z e) = ap hasStar e ∙ sym (ap not (eq-eqb at 0 z))
+star-seen t at st (oneThere p l e) = ap hasStar e ∙ sym (ap not (ne-eqb at 0 (λ z. omega arith)))
+
+pub star-fits : (t : List ℕ) (at : ℕ) (st : Star) → StarAt t at st → (at ≡ 0 → ⊥) → at + 2 ≤ length t
+star-fits t at st (noneThere z e) n = absurd (n z)
+star-fits t at st (oneThere p l e) n = l
+
+pub star-block : (t : List ℕ) (m count at : ℕ) (st : Star) → StarAt t at st → groupBlock t m count at ≡ block m (count - m) (minOf st) (maxOf st)
+star-block t m count at st (noneThere z e) = rw (eq-eqb at 0 z, e)
+star-block t m count at st (oneThere p l e) = rw (ne-eqb at 0 (λ z. omega arith), e)
 
 -- ---- one item after another
 
+-- what was gathered: the members up to `count`, and the place of the 20
+pub record Gathered (t : List ℕ) (m : ℕ) (before : List ℕ) (count at : ℕ) (after : List ℕ) (g : Group Leaf) : Type 0 where
+  pub placed : Placed t m before (membersOfGroup g) count after
+  pub starred : StarAt t at (starOf g)
+
+-- one item more: a 20, where one is allowed, or a member
+pub data Stepped (t : List ℕ) (stars : Bool) (p count at : ℕ) (before : List ℕ) (r count′ at′ : ℕ) (after : List ℕ) : Type 0 where
+  stepStar : (stars && eqb (kindOf (drop p t)) 0x20) ≡ true → Noted (StarNotes t p r) t (starHere (not (eqb at 0)) (drop p t)) (faultIn r) r → count′ ≡ count → at′ ≡ p + 1 → after ≡ before
+      → Stepped t stars p count at before r count′ at′ after
+  stepMember : (stars && eqb (kindOf (drop p t)) 0x20) ≡ false → Noted (MemberNotes t count before after) t (member leafHead count (drop p t)) (faultIn r) r → count′ ≡ count + 1 → at′ ≡ at
+      → Stepped t stars p count at before r count′ at′ after
+
 module _ (t : List ℕ) (stars : Bool) where
   -- what the items from here on give is what all of them give
-  pub record Going (at n m : ℕ) (before : List ℕ) (sofar : Several) (places : List ℕ) (more : ℕ) : Type 0 where
-    pub sound : sofar .code ≡ 0
-    pub inside : sofar .next ≤ length t
+  pub record Going (from n m : ℕ) (before : List ℕ) (p count at : ℕ) (places : List ℕ) (more : ℕ) : Type 0 where
+    pub short : length t < 65536
+    pub inside : p ≤ length t
+    pub few : count ≤ 32
     pub size : length places ≡ 32
     pub st : Star
-    pub has : hasStar st ≡ sofar .seen
-    pub lower : sofar .min ≡ minOf st
-    pub upper : sofar .max ≡ maxOf st
-    pub goes : (code next count min max : ℕ) (after : List ℕ)
-        → Noted (GroupNotes t (sofar .count) places count min max after) t (members leafHead stars more (sofar .count) st (drop (sofar .next) t)) code next
-        → Noted (GroupNotes t m before count min max after) t (members leafHead stars n m noStar (drop at t)) code next
+    pub starred : StarAt t at st
+    pub goes : (r count′ at′ : ℕ) (after : List ℕ)
+        → Noted (Gathered t count places count′ at′ after) t (members leafHead stars more count st (drop p t)) (faultIn r) r
+        → Noted (Gathered t m before count′ at′ after) t (members leafHead stars n m noStar (drop from t)) (faultIn r) r
 
-  pub go-start : (at n m : ℕ) (before : List ℕ) → at ≤ length t → length before ≡ 32
-      → Going at n m before (record { code = 0; next = at; count = m; seen = false; min = 0; max = 0 }) before n
-  go-start at n m before i z = record { sound = refl; inside = i; size = z; st = noStar; has = refl; lower = refl; upper = refl; goes = λ code next count min max after s. s }
+  pub go-start : (from n m : ℕ) (before : List ℕ) → length t < 65536 → from ≤ length t → m ≤ 32 → length before ≡ 32 → Going from n m before from m 0 before n
+  go-start from n m before b i l z = record { short = b; inside = i; few = l; size = z; st = noStar; starred = noneThere refl refl; goes = λ r count′ at′ after s. s }
 
-  put-member : (e : Elem Leaf) (o : Read (Group Leaf)) (code next k : ℕ) (before : List ℕ) (j : ℕ) (places : List ℕ) (count min max : ℕ) (after : List ℕ)
-      → MemberNotes t k before j places e → Noted (GroupNotes t j places count min max after) t o code next → Noted (GroupNotes t k before count min max after) t (putMember e o) code next
+  put-member : (e : Elem Leaf) (o : Read (Group Leaf)) (code next k : ℕ) (before : List ℕ) (j : ℕ) (places : List ℕ) (count at : ℕ) (after : List ℕ)
+      → Placed t k before (e ∷ []) j places → Noted (Gathered t j places count at after) t o code next → Noted (Gathered t k before count at after) t (putMember e o) code next
   unfolding putMember membersOfGroup
-  put-member e o code next k before j places count min max after h (stopped q p) = stopped (ap (putMember e) q) p
-  put-member e o code next k before j places count min max after h (noted (grouped es st) q z w i) =
-      noted (grouped (e ∷ es) st) (ap (putMember e) q) z (record { placed = placed-then h (w .placed); lower = w .lower; upper = w .upper }) i
+  put-member e o code next k before j places count at after h (stopped q p s) = stopped (ap (putMember e) q) p s
+  put-member e o code next k before j places count at after h (noted (grouped es st) q z w i) =
+      noted (grouped (e ∷ es) st) (ap (putMember e) q) z (record { placed = placed-then h (w .placed); starred = w .starred }) i
 
   opens : (b : Bool) (n k : ℕ) (st : Star) (seen : Bool) (s : List ℕ) → (stars && eqb (kindOf s) 0x20) ≡ b → hasStar st ≡ seen
       → members leafHead stars (suc n) k st s ≡ cond b (thenStar (starHere seen s) (members leafHead stars n k)) (thenMembers (member leafHead k s) (members leafHead stars n (k + 1) st))
@@ -87,84 +113,91 @@ module _ (t : List ℕ) (stars : Bool) where
       ap (λ (v : Bool). cond v (thenStar (starHere (hasStar st) s) (members leafHead stars n k)) (thenMembers (member leafHead k s) (members leafHead stars n (k + 1) st))) e
       ∙ ap (λ (v : Bool). cond b (thenStar (starHere v s) (members leafHead stars n k)) (thenMembers (member leafHead k s) (members leafHead stars n (k + 1) st))) h
 
-  module _ {at n m : ℕ} {before : List ℕ} {sofar : Several} {places : List ℕ} {more : ℕ} (g : Going at n m before sofar places more) where
-    pub go-stop : (r : Several) (after : List ℕ) → 0 < more → Stepped t stars sofar places r after → (r .code ≡ 0 → ⊥)
-        → Noted (GroupNotes t m before (r .count) (r .min) (r .max) after) t (members leafHead stars n m noStar (drop at t)) (r .code) (r .next)
+  module _ {from n m : ℕ} {before : List ℕ} {p count at : ℕ} {places : List ℕ} {more : ℕ} (g : Going from n m before p count at places more) (r count′ at′ : ℕ) (after : List ℕ) (some : 0 < more) where
+    pub go-stop : {Tells : Group Leaf → Type 0} → Stepped t stars p count at places r count′ at′ after → 16777215 < r
+        → Noted Tells t (members leafHead stars n m noStar (drop from t)) (faultIn r) r
     unfolding thenStar thenMembers
-    go-stop r after some s z = g .goes (r .code) (r .next) (r .count) (r .min) (r .max) after (on more some s)
+    go-stop s b = stopped-on (g .goes r count′ at′ after (on more some s)) (omega arith)
       where
-        on : (j : ℕ) → 0 < j → Stepped t stars sofar places r after
-            → Noted (GroupNotes t (sofar .count) places (r .count) (r .min) (r .max) after) t (members leafHead stars j (sofar .count) (g .st) (drop (sofar .next) t)) (r .code) (r .next)
+        on : (j : ℕ) → 0 < j → Stepped t stars p count at places r count′ at′ after
+            → Noted (Gathered t count places count′ at′ after) t (members leafHead stars j count (g .st) (drop p t)) (faultIn r) r
         on zero l s = absurd (omega arith)
-        on (suc j) l (stepStar e q v) =
-            let w = noted-stopped (q .reads) z in
-            stopped (opens true j (sofar .count) (g .st) (sofar .seen) (drop (sofar .next) t) e (g .has) ∙ ap (λ (o : Read Star). thenStar o (members leafHead stars j (sofar .count))) (w .0)) (w .1)
-        on (suc j) l (stepMember e q) =
-            let w = noted-stopped (q .reads) z in
-            stopped (opens false j (sofar .count) (g .st) (sofar .seen) (drop (sofar .next) t) e (g .has) ∙ ap (λ (o : Read (Elem Leaf)). thenMembers o (members leafHead stars j (sofar .count + 1) (g .st))) (w .0)) (w .1)
+        on (suc j) l (stepStar e q c h v) =
+            let w = noted-stopped _ _ _ _ _ q (omega arith) in
+            stopped (opens true j count (g .st) _ (drop p t) e (star-seen t at (g .st) (g .starred)) ∙ ap (λ (o : Read Star). thenStar o (members leafHead stars j count)) (w .0)) (omega arith) (w .1)
+        on (suc j) l (stepMember e q c h) =
+            let w = noted-stopped _ _ _ _ _ q (omega arith) in
+            stopped (opens false j count (g .st) _ (drop p t) e (star-seen t at (g .st) (g .starred)) ∙ ap (λ (o : Read (Elem Leaf)). thenMembers o (members leafHead stars j (count + 1) (g .st))) (w .0)) (omega arith) (w .1)
 
-    pub go-step : (r : Several) (after : List ℕ) → 0 < more → Stepped t stars sofar places r after → length after ≡ 32 → r .code ≡ 0 → Going at n m before r after (more - 1)
+    pub go-step : Stepped t stars p count at places r count′ at′ after → length after ≡ 32 → r ≤ 16777215 → Going from n m before r count′ at′ after (more - 1)
     unfolding thenStar thenMembers
-    go-step r after some s size z = on more some s (g .goes)
+    go-step s size b = on more some s (g .goes)
       where
-        on : (j : ℕ) → 0 < j → Stepped t stars sofar places r after
-            → ((code next count min max : ℕ) (after : List ℕ)
-            → Noted (GroupNotes t (sofar .count) places count min max after) t (members leafHead stars j (sofar .count) (g .st) (drop (sofar .next) t)) code next
-            → Noted (GroupNotes t m before count min max after) t (members leafHead stars n m noStar (drop at t)) code next)
-            → Going at n m before r after (j - 1)
+        on : (j : ℕ) → 0 < j → Stepped t stars p count at places r count′ at′ after
+            → ((r count′ at′ : ℕ) (after : List ℕ)
+            → Noted (Gathered t count places count′ at′ after) t (members leafHead stars j count (g .st) (drop p t)) (faultIn r) r
+            → Noted (Gathered t m before count′ at′ after) t (members leafHead stars n m noStar (drop from t)) (faultIn r) r)
+            → Going from n m before r count′ at′ after (j - 1)
         on zero l s goes = absurd (omega arith)
-        on (suc j) l (stepStar e q v) goes =
-            let w = noted-read (q .reads) z in
+        on (suc j) l (stepStar e q c h v) goes =
+            let w = noted-read _ _ _ _ _ q (omega arith) in
             let down : suc j - 1 ≡ j = omega arith in
+            let next : p + 2 ≡ at′ + 1 = omega arith in
+            let there : StarAt t at′ (w .0) = oneThere (omega arith) (omega (arith, w .2 .size, w .3)) (w .2 .what ∙ ap₂ (λ (a b : ℕ). star (getD t a 0) (getD t b 0)) (sym h) next) in
             record {
-              sound = z;
+              short = g .short;
               inside = w .3;
+              few = omega (arith, g .few);
               size = size;
-              st = star (r .min) (r .max);
-              has = sym (q .seen);
-              lower = refl;
-              upper = refl;
-              goes = λ code next count min max end h.
-                  goes code next count min max end
-                  (noted-as (opens true j (sofar .count) (g .st) (sofar .seen) (drop (sofar .next) t) e (g .has) ∙ ap (λ (o : Read Star). thenStar o (members leafHead stars j (sofar .count))) (w .1 ∙ ap (λ (x : Star). got x (drop (r .next) t)) (w .2)))
-                  (rw (q .count, v, down) at h));
+              st = w .0;
+              starred = there;
+              goes = λ r₁ count₁ at₁ after₁ k.
+                  goes r₁ count₁ at₁ after₁
+                  (noted-as (opens true j count (g .st) _ (drop p t) e (star-seen t at (g .st) (g .starred)) ∙ ap (λ (o : Read Star). thenStar o (members leafHead stars j count)) (w .1))
+                  (rw (c, v, down) at k));
             }
-        on (suc j) l (stepMember e q) goes =
-            let w = noted-read (q .reads) z in
+        on (suc j) l (stepMember e q c h) goes =
+            let w = noted-read _ _ _ _ _ q (omega arith) in
             let down : suc j - 1 ≡ j = omega arith in
-            let one : r .count ≡ sofar .count + 1 = omega (arith, w .2 .counts) in
             record {
-              sound = z;
+              short = g .short;
               inside = w .3;
+              few = omega (arith, member-few count (drop p t) (w .0) (drop r t) (w .1));
               size = size;
               st = g .st;
-              has = g .has ∙ sym (q .seen);
-              lower = q .lower ∙ g .lower;
-              upper = q .upper ∙ g .upper;
-              goes = λ code next count min max end h.
-                  goes code next count min max end
-                  (noted-as (opens false j (sofar .count) (g .st) (sofar .seen) (drop (sofar .next) t) e (g .has) ∙ ap (λ (o : Read (Elem Leaf)). thenMembers o (members leafHead stars j (sofar .count + 1) (g .st))) (w .1))
-                  (put-member (w .0) _ code next (sofar .count) places (r .count) after count min max end (w .2)
-                  (subst (λ (c : ℕ). Noted (GroupNotes t (r .count) after count min max end) t (members leafHead stars j c (g .st) (drop (r .next) t)) code next) one
-                  (subst (λ (i : ℕ). Noted (GroupNotes t (r .count) after count min max end) t (members leafHead stars i (r .count) (g .st) (drop (r .next) t)) code next) down h))));
+              starred = rw h (g .starred);
+              goes = λ r₁ count₁ at₁ after₁ k.
+                  goes r₁ count₁ at₁ after₁
+                  (noted-as (opens false j count (g .st) _ (drop p t) e (star-seen t at (g .st) (g .starred)) ∙ ap (λ (o : Read (Elem Leaf)). thenMembers o (members leafHead stars j (count + 1) (g .st))) (w .1))
+                  (put-member (w .0) _ (faultIn r₁) r₁ count places (count + 1) after count₁ at₁ after₁ (w .2)
+                  (rw (c, down) at k)));
             }
 
-    pub go-end : more ≡ 0 → Noted (GroupNotes t m before (sofar .count) (sofar .min) (sofar .max) places) t (members leafHead stars n m noStar (drop at t)) (sofar .code) (sofar .next)
-    unfolding members membersOfGroup
-    go-end z = g .goes (sofar .code) (sofar .next) (sofar .count) (sofar .min) (sofar .max) places (on more z)
-      where
-        on : (j : ℕ) → j ≡ 0
-            → Noted (GroupNotes t (sofar .count) places (sofar .count) (sofar .min) (sofar .max) places) t (members leafHead stars j (sofar .count) (g .st) (drop (sofar .next) t)) (sofar .code) (sofar .next)
-        on zero e = noted (grouped [] (g .st)) refl (g .sound) (record { placed = placed-none t (sofar .count) places; lower = g .lower; upper = g .upper }) (g .inside)
-        on (suc j) e = absurd (omega arith)
+  pub go-end : {from n m : ℕ} {before : List ℕ} {p count at : ℕ} {places : List ℕ} {more : ℕ} → Going from n m before p count at places more → more ≡ 0
+      → Noted (Gathered t m before count at places) t (members leafHead stars n m noStar (drop from t)) (faultIn p) p
+  unfolding members membersOfGroup
+  go-end {p = p} {count = count} {at = at} {places = places} {more = more} g z = g .goes p count at places (on more z)
+    where
+      on : (j : ℕ) → j ≡ 0 → Noted (Gathered t count places count at places) t (members leafHead stars j count (g .st) (drop p t)) (faultIn p) p
+      on zero e = let b = g .short in let i = g .inside in noted (grouped [] (g .st)) refl (omega arith) (record { placed = placed-none t count places; starred = g .starred }) i
+      on (suc j) e = absurd (omega arith)
 
 -- how many members there are by then
-pub group-counts : {t : List ℕ} (stars : Bool) (n : ℕ) {m : ℕ} (s : List ℕ) {before : List ℕ} {code next count min max : ℕ} {after : List ℕ} → m ≤ 32
-    → Noted (GroupNotes t m before count min max after) t (members leafHead stars n m noStar s) code next → code ≡ 0 → (m ≤ count) × (count ≤ 32)
-group-counts {t = t} stars n {m = m} s {next = next} few o z =
-    let w = noted-read o z in
+pub gathered-counts : (t : List ℕ) (stars : Bool) (n m : ℕ) (s : List ℕ) (before : List ℕ) (count at : ℕ) (after : List ℕ) (code next : ℕ) → m ≤ 32 → code ≡ 0
+    → Noted (Gathered t m before count at after) t (members leafHead stars n m noStar s) code next → (m ≤ count) × (count ≤ 32) × ((at ≡ 0 → ⊥) → at + 2 ≤ length t)
+gathered-counts t stars n m s before count at after code next few z o =
+    let w = noted-read _ _ _ _ _ o z in
     let l = members-limit leafHead stars n m noStar s (w .0) (drop next t) few (w .1) in
-    (omega (arith, w .2 .placed .counts), omega (arith, w .2 .placed .counts))
+    (omega (arith, w .2 .placed .counts), omega (arith, w .2 .placed .counts), star-fits t at _ (w .2 .starred))
+
+-- what was gathered is one block
+pub gathered-block : (t : List ℕ) (m : ℕ) (before : List ℕ) (count at number : ℕ) (after : List ℕ) (g : Group Leaf) → Gathered t m before count at after g → Says number (groupBlock t m count at) → GroupNotes t m before number after g
+unfolding membersOfGroup blockOfGroup
+gathered-block t m before count at number after (grouped es st) h s =
+    let c : count ≡ m + length es = sym (h .placed .counts) in
+    let k : count - m ≡ length es = omega arith in
+    let b : groupBlock t m count at ≡ block m (length es) (minOf st) (maxOf st) = star-block t m count at st (h .starred) ∙ rw k in
+    record { placed = rw (sym c) (h .placed); says = (s .0 ∙ ap numberOf b, s .1 ∙ b) }
 
 -- where no 20 is allowed there is none
 pub no-star : (n k : ℕ) (st : Star) (s : List ℕ) (es : List (Elem Leaf)) (st′ : Star) (rest : List ℕ) → members leafHead false n k st s ≡ got (grouped es st′) rest → st′ ≡ st

@@ -15,8 +15,9 @@ use Rattle.grammar.specs.Record.{Head, fault, leafHere, group, kindOf, countFau
 use Rattle.grammar.specs.Read.{refuse, got, orRefuse, refuseOr, mapRead}
 use Rattle.grammar.specs.Reading.{uncounted, outermost}
 use Rattle.grammar.specs.Whole.{asSpares, starHere, numbered, member, members, permutationHere, item}
-use Rattle.elements.specs.Contract.{HeadAt, faulty, aLeaf, aGroup, Scanned, refused, read, noCount}
-use Rattle.elements.proofs.Scans.{elem-fault}
+use Rattle.elements.specs.Contract.{faultIn, HeadAt, faulty, aLeaf, aGroup, Noted, noted}
+use Rattle.elements.proofs.Scans.{elem-fault, head-stops}
+use Rattle.items.specs.Notes.{StarNotes}
 use Rattle.grammar.proofs.ReadApart.{refuse-is, refuse-not}
 
 -- ---- min and max
@@ -50,30 +51,22 @@ module _ (t : List ℕ) (at : ℕ) where
 -- ---- a 20
 
 module _ (t : List ℕ) (at : ℕ) (seen : Bool) (code : ℕ) (e : code ≡ boundsFault (drop at t)) where
-  pub star-fault : (next c : ℕ) → (code ≡ 0 → ⊥) → Scanned noCount t (starHere seen (drop at t)) code next c
+  pub star-fault : (code ≡ 0 → ⊥) → starHere seen (drop at t) ≡ refuse code
   unfolding starHere
-  star-fault next c z = refused (ap (λ r. refuseOr r (orRefuse seen 8 (got (star (getD (drop at t) 1 0) (getD (drop at t) 2 0)) (drop 3 (drop at t))))) (sym e) ∙ refuse-is code _ z) (omega (arith, z))
+  star-fault z = ap (λ r. refuseOr r (orRefuse seen 8 (got (star (getD (drop at t) 1 0) (getD (drop at t) 2 0)) (drop 3 (drop at t))))) (sym e) ∙ refuse-is code _ z
 
-  star-sound : code ≡ 0 → starHere seen (drop at t) ≡ orRefuse seen 8 (got (star (getD (drop at t) 1 0) (getD (drop at t) 2 0)) (drop 3 (drop at t)))
+  star-sound : code ≡ 0 → starHere seen (drop at t) ≡ orRefuse seen 8 (got (star (getD t (at + 1) 0) (getD t (at + 2) 0)) (drop (at + 3) t))
   unfolding starHere
-  star-sound z = refuse-not (boundsFault (drop at t)) _ (sym e ∙ z)
+  star-sound z = refuse-not (boundsFault (drop at t)) _ (sym e ∙ z) ∙ rw (getD-drop at t 1 0, getD-drop at t 2 0, drop-drop 3 at t)
 
-  pub star-again : (next c : ℕ) → code ≡ 0 → seen ≡ true → Scanned noCount t (starHere seen (drop at t)) 8 next c
-  star-again next c z s = refused (star-sound z ∙ rw s) (omega arith)
+  pub star-again : code ≡ 0 → seen ≡ true → starHere seen (drop at t) ≡ refuse 8
+  star-again z s = star-sound z ∙ rw s
 
-  pub star-right : code ≡ 0 → seen ≡ false → Scanned noCount t (starHere seen (drop at t)) 0 (at + 3) 0
-  star-right z s =
-      let q : orRefuse seen 8 (got (star (getD (drop at t) 1 0) (getD (drop at t) 2 0)) (drop 3 (drop at t))) ≡ got (star (getD (drop at t) 1 0) (getD (drop at t) 2 0)) (drop (at + 3) t) = rw (s, drop-drop 3 at t) in
-      read (star (getD (drop at t) 1 0) (getD (drop at t) 2 0)) (star-sound z ∙ q) refl refl (bounds-inv t at (sym e ∙ z))
-
-pub star-inv : (seen : Bool) (s : List ℕ) (st : Star) (s′ : List ℕ) → starHere seen s ≡ got st s′ → st ≡ star (getD s 1 0) (getD s 2 0)
-unfolding starHere
-star-inv seen s st s′ q = go (boundsFault s) seen q
-  where
-    go : (r : ℕ) (b : Bool) → refuseOr r (orRefuse b 8 (got (star (getD s 1 0) (getD s 2 0)) (drop 3 s))) ≡ got st s′ → st ≡ star (getD s 1 0) (getD s 2 0)
-    go zero true e = let z : _≡_ {A = ℕ} 0 1 = cc in absurd (omega arith)
-    go zero false e = cc
-    go (suc r) b e = let z : _≡_ {A = ℕ} 0 1 = cc in absurd (omega arith)
+  pub star-right : code ≡ 0 → seen ≡ false → length t < 65536 → Noted (StarNotes t at (at + 3)) t (starHere seen (drop at t)) (faultIn (at + 3)) (at + 3)
+  star-right z s short =
+      let q : orRefuse seen 8 (got (star (getD t (at + 1) 0) (getD t (at + 2) 0)) (drop (at + 3) t)) ≡ got (star (getD t (at + 1) 0) (getD t (at + 2) 0)) (drop (at + 3) t) = rw s in
+      let i = bounds-inv t at (sym e ∙ z) in
+      noted (star (getD t (at + 1) 0) (getD t (at + 2) 0)) (star-sound z ∙ q) (omega arith) (record { what = refl; size = refl }) i
 
 -- ---- a member
 
@@ -87,18 +80,16 @@ module _ {L : Type 0} (leaves : List ℕ → Head L) where
       go (leafHere v s′) e = rw (le-ltb 31 m l)
       go (group c n s′) e = rw (le-ltb 31 m l)
 
-  module _ (t : List ℕ) (at m code n next : ℕ) (over : 31 < m) where
-    pub member-fault : HeadAt t (head leaves (drop at t)) code n next → (code ≡ 0 → ⊥) → (member leaves m (drop at t) ≡ refuse code) × (0 < code)
+  module _ (t : List ℕ) (at m end : ℕ) (short : length t < 65536) where
+    pub member-fault : HeadAt t at (head leaves (drop at t)) end → 16777215 < end → (member leaves m (drop at t) ≡ refuse (faultIn end)) × (faultIn end < 256)
     unfolding member numbered
-    member-fault (faulty q h) z = (ap (λ v. numbered m v (uncounted (outermost leaves (drop at t)))) q, h)
-    member-fault (aLeaf l q e w i) z = absurd (z e)
-    member-fault (aGroup b q e w i) z = absurd (z e)
+    member-fault h b = let v = head-stops t at (head leaves (drop at t)) end short h b in (ap (λ v. numbered m v (uncounted (outermost leaves (drop at t)))) (v .0), v .1)
 
-    pub member-over : HeadAt t (head leaves (drop at t)) code n next → code ≡ 0 → member leaves m (drop at t) ≡ refuse 8
+    pub member-over : HeadAt t at (head leaves (drop at t)) end → end ≤ 16777215 → 31 < m → member leaves m (drop at t) ≡ refuse 8
     unfolding member numbered
-    member-over (faulty q h) z = absurd (omega arith)
-    member-over (aLeaf l q e w i) z = ap (λ v. numbered m v (uncounted (outermost leaves (drop at t)))) q ∙ rw (lt-ltb 31 m over)
-    member-over (aGroup b q e w i) z = ap (λ v. numbered m v (uncounted (outermost leaves (drop at t)))) q ∙ rw (lt-ltb 31 m over)
+    member-over (faulty q h s) b over = absurd (omega arith)
+    member-over (aLeaf l q k a i) b over = ap (λ v. numbered m v (uncounted (outermost leaves (drop at t)))) q ∙ rw (lt-ltb 31 m over)
+    member-over (aGroup c q k e i) b over = ap (λ v. numbered m v (uncounted (outermost leaves (drop at t)))) q ∙ rw (lt-ltb 31 m over)
 
 -- ---- an item of a record of
 

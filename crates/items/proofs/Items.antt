@@ -2,59 +2,47 @@
 use mathlib.Core.Path.{_≡_, refl, ap, _∙_}
 use mathlib.Core.Bool.{true, false}
 use mathlib.Core.List.{List}
-use Prim.Native.Nat.{ℕ, _+_, _-_}
+use Prim.Native.Nat.{ℕ, _+_, _≤_, _<_}
 use native.Mathlib.Omega.{arith}
 use lib.ListN.{length, getD, drop}
 use Rattle.grammar.specs.Element.{Elem}
-use Rattle.grammar.specs.Template.{noStar, Group, grouped, Item, one, spares, permutation, membersOfGroup, membersOfItem}
+use Rattle.grammar.specs.Template.{Star, noStar, star, Group, grouped, Item, one, spares, permutation, membersOfGroup, membersOfItem}
 use Rattle.grammar.specs.Record.{countFault}
 use Rattle.grammar.specs.Leaf.{Leaf, leafHead}
 use Rattle.grammar.specs.Read.{mapRead}
 use Rattle.grammar.specs.Whole.{asSpares, starHere, members, permutationHere}
 use Rattle.grammar.specs.Blocks.{blockOfGroup, blockOfItem}
-use Rattle.blocks.specs.Numbers.{block}
-use Rattle.elements.specs.Contract.{Scanned, noCount}
-use Rattle.items.specs.Notes.{Noted, noted, MemberNotes, GroupNotes, ItemNotes}
-use Rattle.blocks.specs.declared.Block.{Block}
-use Rattle.elements.proofs.Scans.{scanned-refused}
+use Rattle.blocks.specs.Numbers.{block, numberOf}
+use Rattle.elements.specs.Contract.{faultIn, Noted}
+use Rattle.items.specs.Notes.{MemberNotes, StarNotes, Says, GroupNotes, ItemNotes}
 use Rattle.items.proofs.ItemRecords.{permutation-opens}
-use Rattle.items.proofs.MemberPlaces.{noted-stopped, noted-read, stopped-as, placed-none}
-use Rattle.items.proofs.Groups.{star-told}
+use Rattle.items.proofs.MemberPlaces.{noted-as, map-noted, placed-none}
 
--- ---- one item
-
-module _ (t : List ℕ) (at m code : ℕ) (s : Scanned noCount t (starHere false (drop at t)) code (at + 3) 0) where
-  pub spares-stopped : (code ≡ 0 → ⊥) → (c next count : ℕ) (b : Block) → c ≡ code → (places : List ℕ)
-      → Noted (ItemNotes t m places count b places) t (mapRead asSpares (starHere false (drop at t))) c next
-  unfolding mapRead
-  spares-stopped z c next count b e places = let r = scanned-refused _ _ _ _ _ _ s z in stopped-as (ap (mapRead asSpares) (r .0)) (r .1) e
-
-  pub spares-right : code ≡ 0 → (places : List ℕ)
-      → Noted (ItemNotes t m places m (block m 0 (getD t (at + 1) 0) (getD t (at + 2) 0)) places) t (mapRead asSpares (starHere false (drop at t))) 0 (at + 3)
-  unfolding mapRead blockOfItem membersOfItem
-  spares-right z places =
-      let r = star-told t at false code s z in
-      noted (spares (getD t (at + 1) 0) (getD t (at + 2) 0)) (ap (mapRead asSpares) (r .0)) refl (record { placed = placed-none t m places; shape = refl }) (r .1)
-
-module _ (t : List ℕ) (m : ℕ) (before : List ℕ) (count : ℕ) (after : List ℕ) where
-  pub group-item : (min max : ℕ) (g : Group Leaf) → GroupNotes t m before count min max after g → ItemNotes t m before count (block m (count - m) min max) after (permutation g)
-  unfolding membersOfItem membersOfGroup blockOfItem blockOfGroup
-  group-item min max (grouped es st) w =
-      let k : count - m ≡ length es = omega (arith, w .placed .counts) in
-      record { placed = w .placed; shape = rw (k, w .lower, w .upper) }
-
-  pub one-item : (e : Elem Leaf) → MemberNotes t m before count after e → ItemNotes t m before count (block m 1 0 0) after (one e)
+module _ (t : List ℕ) (m number : ℕ) where
+  pub spares-item : (at r : ℕ) (places : List ℕ) (st : Star) → StarNotes t at r st → Says number (block m 0 (getD t (at + 1) 0) (getD t (at + 2) 0)) → ItemNotes t m places number places (asSpares st)
   unfolding membersOfItem blockOfItem
-  one-item e w = record { placed = w; shape = refl }
+  spares-item at r places st n s = go st (n .what)
+    where
+      none : (st : Star) → st ≡ star (getD t (at + 1) 0) (getD t (at + 2) 0) → asSpares {L = Leaf} st ≡ spares (getD t (at + 1) 0) (getD t (at + 2) 0)
+      none st e = ap asSpares e
 
-module _ (t : List ℕ) (at m code : ℕ) (e : code ≡ countFault 1 32 (drop at t)) (z : code ≡ 0) (before : List ℕ) (code′ next count min max : ℕ) (after : List ℕ)
-    (s : Noted (GroupNotes t m before count min max after) t (members leafHead true (getD t (at + 1) 0) m noStar (drop (at + 2) t)) code′ next) where
-  pub permutation-stopped : {Tells : Item Leaf → Type 0} {c p : ℕ} → (code′ ≡ 0 → ⊥) → c ≡ code′ → Noted Tells t (permutationHere leafHead m (drop at t)) c p
-  unfolding mapRead
-  permutation-stopped n f = let w = noted-stopped s n in stopped-as (permutation-opens leafHead t at m code e z ∙ ap (mapRead permutation) (w .0)) (w .1) f
+      zero-more : m + 0 ≡ m
+      zero-more = omega arith
 
-  pub permutation-right : code′ ≡ 0 → Noted (ItemNotes t m before count (block m (count - m) min max) after) t (permutationHere leafHead m (drop at t)) 0 next
-  unfolding mapRead
-  permutation-right y =
-      let w = noted-read s y in
-      noted (permutation (w .0)) (permutation-opens leafHead t at m code e z ∙ ap (mapRead permutation) (w .1)) refl (group-item t m before count after min max (w .0) (w .2)) (w .3)
+      go : (st : Star) → st ≡ star (getD t (at + 1) 0) (getD t (at + 2) 0) → ItemNotes t m places number places (asSpares st)
+      go st e = rw (none st e) (record { placed = rw zero-more (placed-none t m places); says = s })
+
+  module _ (before after : List ℕ) where
+    pub group-item : (g : Group Leaf) → GroupNotes t m before number after g → ItemNotes t m before number after (permutation g)
+    unfolding membersOfItem blockOfItem
+    group-item g w = record { placed = w .placed; says = w .says }
+
+    pub one-item : (e : Elem Leaf) → MemberNotes t m before after e → Says number (block m 1 0 0) → ItemNotes t m before number after (one e)
+    unfolding membersOfItem blockOfItem
+    one-item e w s = record { placed = w; says = s }
+
+pub permutation-noted : (t : List ℕ) (at m code : ℕ) (e : code ≡ countFault 1 32 (drop at t)) (z : code ≡ 0) (before : List ℕ) (number : ℕ) (after : List ℕ) (r : ℕ)
+    → Noted (GroupNotes t m before number after) t (members leafHead true (getD t (at + 1) 0) m noStar (drop (at + 2) t)) (faultIn r) r
+    → Noted (ItemNotes t m before number after) t (permutationHere leafHead m (drop at t)) (faultIn r) r
+permutation-noted t at m code e z before number after r s =
+    noted-as (permutation-opens leafHead t at m code e z) (map-noted permutation (λ g q w. group-item t m number before after g w) s)

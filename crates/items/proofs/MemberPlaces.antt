@@ -1,6 +1,5 @@
 -- What a scan notes, in general, and the places of the members one after another. Assumes nothing.
--- noted-stopped, noted-read == what a noting scan says where it refuses, and where it reads
--- map-noted == the same scan, of what was read in another form
+-- map-noted == the same scan, of what was read in another form; noted-told == the same told in another way
 -- placed-none, placed-one, placed-then == no member, one member, more members after others
 use mathlib.Core.Path.{_≡_, refl, sym, ap, _∙_, subst}
 use mathlib.Core.List.{List, [], _∷_, _++_, append-assoc, append-nil}
@@ -11,41 +10,35 @@ use lib.Seq.{take-suc-set}
 use Rattle.grammar.specs.Element.{Elem}
 use Rattle.grammar.specs.Leaf.{Leaf}
 use Rattle.grammar.specs.Read.{Read, refuse, got, mapRead}
-use Rattle.elements.specs.Contract.{Scanned, refused, read, noCount}
+use Rattle.elements.specs.Contract.{Noted, stopped, noted}
+use Rattle.elements.proofs.Scans.{noted-stopped}
 use Rattle.grammar.specs.Blocks.{StandsAt, Standing}
-use Rattle.items.specs.Notes.{Noted, stopped, noted, Placed}
+use Rattle.items.specs.Notes.{Placed}
 
 -- ---- what a noting scan says
 
 module _ {A : Type 0} {Tells : A → Type 0} {t : List ℕ} {o : Read A} {code next : ℕ} where
-  pub noted-stopped : Noted Tells t o code next → (code ≡ 0 → ⊥) → (o ≡ refuse code) × (0 < code)
-  noted-stopped (stopped q p) n = (q, p)
-  noted-stopped (noted a q z w i) n = absurd (n z)
-
-  pub noted-read : Noted Tells t o code next → code ≡ 0 → (a : A) × (o ≡ got a (drop next t)) × Tells a × (next ≤ length t)
-  noted-read (stopped q p) z = absurd (omega arith)
-  noted-read (noted a q z′ w i) z = (a, q, w, i)
-
-  pub noted-scanned : Noted Tells t o code next → Scanned noCount t o code next 0
-  noted-scanned (stopped q p) = refused q p
-  noted-scanned (noted a q z w i) = read a q z refl i
-
   pub noted-as : {u : Read A} → o ≡ u → Noted Tells t u code next → Noted Tells t o code next
   noted-as e s = subst (λ (v : Read A). Noted Tells t v code next) (sym e) s
 
-  -- a refusal whose number was handed on
-  pub stopped-as : {number : ℕ} → o ≡ refuse number → 0 < number → code ≡ number → Noted Tells t o code next
-  stopped-as {number = number} q p e = stopped (q ∙ ap refuse (sym e)) (omega arith)
+  -- a refusal, as an answer says it
+  pub stopped-as : (number : ℕ) → o ≡ refuse number → 0 < number → number < 256 → code ≡ number → Noted Tells t o code next
+  stopped-as number q p s e = stopped (q ∙ ap refuse (sym e)) (omega arith) (omega arith)
 
 -- what was refused is refused, whatever is to be said of it
-pub stopped-on : {A : Type 0} {P Q : A → Type 0} {t : List ℕ} {o : Read A} {code next number place : ℕ} → Noted P t o number place → (number ≡ 0 → ⊥) → code ≡ number → Noted Q t o code next
-stopped-on s n e = let w = noted-stopped s n in stopped-as (w .0) (w .1) e
+pub stopped-on : {A : Type 0} {P Q : A → Type 0} {t : List ℕ} {o : Read A} {code next place : ℕ} → Noted P t o code place → 0 < code → Noted Q t o code next
+stopped-on s n = let w = noted-stopped _ _ _ _ _ s n in stopped (w .0) n (w .1)
 
 pub map-noted : {A B : Type 0} {P : A → Type 0} {Q : B → Type 0} {t : List ℕ} {o : Read A} {code next : ℕ} (f : A → B) → ((a : A) → o ≡ got a (drop next t) → P a → Q (f a))
     → Noted P t o code next → Noted Q t (mapRead f o) code next
 unfolding mapRead
-map-noted f g (stopped q p) = stopped (ap (mapRead f) q) p
+map-noted f g (stopped q p s) = stopped (ap (mapRead f) q) p s
 map-noted f g (noted a q z w i) = noted (f a) (ap (mapRead f) q) z (g a q w) i
+
+-- what is told of something that was read, told in another way
+pub noted-told : {A : Type 0} {P Q : A → Type 0} {t : List ℕ} {o : Read A} {code next : ℕ} → ((a : A) → o ≡ got a (drop next t) → P a → Q a) → Noted P t o code next → Noted Q t o code next
+noted-told g (stopped q p s) = stopped q p s
+noted-told g (noted a q z w i) = noted a q z (g a q w) i
 
 -- ---- the places of the members
 

@@ -7,124 +7,78 @@ ghost use lib.ListN.{length, drop};
 ghost use Rattle.grammar.specs.Leaf.{leafHead};
 ghost use Rattle.grammar.specs.Read.{mapRead};
 ghost use Rattle.grammar.specs.Whole.{asSpares, starHere, permutationHere, item};
-ghost use Rattle.blocks.specs.Numbers.{block};
-ghost use Rattle.items.specs.Notes.{Noted, ItemNotes};
-use crate::group::scan_member;
-use crate::group::scan_members;
-use crate::group::scan_star;
+ghost use Rattle.elements.specs.Contract.{faultIn, Place, Noted};
+ghost use Rattle.items.specs.Notes.{ItemNotes};
+use crate::group::group_end;
+use crate::group::member_end;
+use crate::group::star_end;
 use crate::record::kind_at;
 use blocks::Block;
+use blocks::number_of;
 use elements::count_fault;
-use format::BOUNDS_SIZE;
+use elements::refusal;
 use format::COUNT_SIZE;
 use format::DONE;
+use format::FAULT;
 use format::ITEMS_MOST;
 use format::PERMUTATION;
 use format::STARS;
 
-// One item of a record of: a refusal, or 0; the place after it; the members so far; its block.
-pub struct Item {
-    pub code: u8,
-    pub next: usize,
-    pub count: usize,
-    pub block: Block,
-}
-
-// What stands in the places of `blocks` that hold none.
-pub fn no_block() -> Block
-    ensures { λ r. ⌜ r ≡ block 0 0 0 0 ⌝ }
+// The place after the 20 that stands as an item at `at`, with m members before it, or its fault.
+fn spares_end(t: &[u8], at: usize, m: usize, block: &mut u32) -> usize
+    requires { ⌜ Place (now t) at × (m ≤ 32) ⌝ }
+    ensures { λ r. ⌜ ((places : List ℕ) → Noted (ItemNotes (now (t .entry)) m places (now (block .exit)) places) (now (t .entry)) (mapRead asSpares (starHere false (drop at (now (t .entry))))) (faultIn r) r) ⌝ }
 {
-    Block {
-        first: 0,
+    let end = star_end(t, at, false);
+    if FAULT < end {
+        return end;
+    }
+    *block = number_of(Block {
+        first: m as u8,
         k: 0,
-        min: 0,
-        max: 0,
-    }
+        min: t[at + 1],
+        max: t[at + 2],
+    });
+    end
 }
 
-// The item that is refused with this number.
-fn no_item(code: u8) -> Item
-    ensures { λ r. ⌜ r .code ≡ code ⌝ }
-{
-    let block = no_block();
-    Item {
-        code,
-        next: 0,
-        count: 0,
-        block,
-    }
-}
-
-// The 20 that stands as an item at `at`, with m members before it.
-fn scan_spares(t: &[u8], at: usize, m: usize) -> Item
-    requires { ⌜ (at ≤ length (now t)) × (m ≤ 32) ⌝ }
-    ensures { λ r. ⌜ ((places : List ℕ) → Noted (ItemNotes (now (t .entry)) m places (r .count) (r .block) places) (now (t .entry)) (mapRead asSpares (starHere false (drop at (now (t .entry))))) (r .code) (r .next)) ⌝ }
-{
-    let code = scan_star(t, at, false);
-    if code != DONE {
-        return no_item(code);
-    }
-    Item {
-        code: DONE,
-        next: at + BOUNDS_SIZE,
-        count: m,
-        block: Block {
-            first: m as u8,
-            k: 0,
-            min: t[at + 1],
-            max: t[at + 2],
-        },
-    }
-}
-
-// The permutation at `at`, with m members before it.
-fn scan_permutation(t: &[u8], at: usize, m: usize, places: &mut [usize; 32]) -> Item
-    requires { ⌜ (at ≤ length (now t)) × (m ≤ 32) × (length (now places) ≡ 32) ⌝ }
-    ensures { λ r. ⌜ Noted (ItemNotes (now (t .entry)) m (now (places .entry)) (r .count) (r .block) (now (places .exit))) (now (t .entry)) (permutationHere leafHead m (drop at (now (t .entry)))) (r .code) (r .next) × (length (now (places .exit)) ≡ 32) ⌝ }
+// The place after the permutation at `at`, with m members before it, or its refusal.
+fn permutation_end(t: &[u8], at: usize, m: usize, places: &mut [u16; 32], block: &mut u32) -> usize
+    requires { ⌜ Place (now t) at × (m ≤ 32) × (length (now places) ≡ 32) ⌝ }
+    ensures { λ r. ⌜ Noted (ItemNotes (now (t .entry)) m (now (places .entry)) (now (block .exit)) (now (places .exit))) (now (t .entry)) (permutationHere leafHead m (drop at (now (t .entry)))) (faultIn r) r × (length (now (places .exit)) ≡ 32) ⌝ }
 {
     let code = count_fault(t, at, 1, ITEMS_MOST);
     if code != DONE {
-        return no_item(code);
+        return refusal(code);
     }
-    let g = scan_members(t, at + COUNT_SIZE, t[at + 1] as usize, m, true, places);
-    if g.code != DONE {
-        return no_item(g.code);
-    }
-    Item {
-        code: DONE,
-        next: g.next,
-        count: g.count,
-        block: Block {
-            first: m as u8,
-            k: (g.count - m) as u8,
-            min: g.min,
-            max: g.max,
-        },
-    }
+    group_end(
+        t,
+        at + COUNT_SIZE,
+        t[at + 1] as usize,
+        m,
+        true,
+        places,
+        block,
+    )
 }
 
-// The item of a record of at `at`, with m members before it.
-pub fn scan_item(t: &[u8], at: usize, m: usize, places: &mut [usize; 32]) -> Item
-    requires { ⌜ (at ≤ length (now t)) × (m ≤ 32) × (length (now places) ≡ 32) ⌝ }
-    ensures { λ r. ⌜ Noted (ItemNotes (now (t .entry)) m (now (places .entry)) (r .count) (r .block) (now (places .exit))) (now (t .entry)) (item leafHead m (drop at (now (t .entry)))) (r .code) (r .next) × (length (now (places .exit)) ≡ 32) ⌝ }
+// The place after the item of a record of at `at`, with m members before it, or its refusal. Its block is noted.
+pub fn item_end(t: &[u8], at: usize, m: usize, places: &mut [u16; 32], block: &mut u32) -> usize
+    requires { ⌜ Place (now t) at × (m ≤ 32) × (length (now places) ≡ 32) ⌝ }
+    ensures { λ r. ⌜ Noted (ItemNotes (now (t .entry)) m (now (places .entry)) (now (block .exit)) (now (places .exit))) (now (t .entry)) (item leafHead m (drop at (now (t .entry)))) (faultIn r) r × (length (now (places .exit)) ≡ 32) ⌝ }
 {
     let kind = kind_at(t, at);
     if kind == STARS {
-        return scan_spares(t, at, m);
+        return spares_end(t, at, m, block);
     }
     if kind == PERMUTATION {
-        return scan_permutation(t, at, m, places);
+        return permutation_end(t, at, m, places, block);
     }
-    let s = scan_member(t, at, m, places);
-    Item {
-        code: s.code,
-        next: s.next,
-        count: s.count,
-        block: Block {
-            first: m as u8,
-            k: 1,
-            min: 0,
-            max: 0,
-        },
-    }
+    *block = number_of(Block {
+        first: m as u8,
+        k: 1,
+        min: 0,
+        max: 0,
+    });
+    member_end(t, at, m, places)
 }
