@@ -1,52 +1,70 @@
--- The items of a record of, one after another, with their blocks. Assumes nothing.
+-- The items of a record of, one after another, with the numbers of their blocks. Assumes nothing.
 use mathlib.Core.Path.{_≡_, refl, sym, ap, ap₂, _∙_, subst}
 use mathlib.Core.List.{List, [], _∷_, _++_, append-assoc, append-nil}
-use Prim.Native.Nat.{ℕ, suc, _+_, _-_, _≤_, _<_}
+use Prim.Native.Nat.{ℕ, zero, suc, _+_, _-_, _*_, _/_, _%_, _≤_, _<_}
 use native.Mathlib.Omega.{arith}
-use lib.ListN.{length, drop, set, replicate, length-append}
+use lib.ListN.{length, drop, take, set, replicate, length-append}
 use lib.Seq.{set-at}
-use Rattle.grammar.specs.Template.{Item, one, recordOf, membersOfItem, membersOfItems, membersOf}
+use Rattle.grammar.specs.Template.{grouped, Item, one, spares, permutation, recordOf, membersOfGroup, membersOfItem, membersOfItems, membersOf}
 use Rattle.grammar.specs.Leaf.{Leaf, leafHead}
 use Rattle.grammar.specs.Read.{Read, refuse, got}
-use Rattle.grammar.specs.Whole.{putItem, thenItems, members, item, items}
-use Rattle.grammar.specs.Blocks.{blocksOfItems, blocksOf, bodyKind, Standing}
-use Rattle.blocks.specs.Numbers.{block}
-use Rattle.items.specs.Notes.{Noted, stopped, noted, Placed, ItemNotes}
-use Rattle.template.specs.Layouts.{padded, Outlined, RecordNotes}
-use Rattle.template.specs.declared.body.Outline.{Outline}
+use Rattle.grammar.specs.Whole.{putItem, thenItems, item, items}
+use Rattle.grammar.specs.Blocks.{blockOfGroup, blockOfItem, blocksOfItems, blocksOf, bodyKind, Standing}
+use Rattle.blocks.specs.Numbers.{numberOf, blockIn, numbersOf, blocksIn}
 use Rattle.blocks.specs.declared.Block.{Block}
-use Rattle.items.proofs.MemberPlaces.{noted-stopped, noted-read, noted-as, stopped-as, placed-none, placed-then}
+use Rattle.blocks.proofs.BlockNumbers.{length-blocksIn, blocksIn-append}
+use Rattle.elements.specs.Contract.{faultIn, placeIn, countIn, Noted, stopped, noted}
+use Rattle.elements.proofs.Scans.{noted-stopped, noted-read}
+use Rattle.items.specs.Notes.{Placed, ItemNotes}
+use Rattle.items.proofs.MemberPlaces.{noted-as, stopped-on, placed-none, placed-then}
 use Rattle.grammar.proofs.MemberLimit.{item-limit}
+use Rattle.template.specs.Bodies.{RecordNotes}
 
--- the first empty block gives way to b
-pub padded-more : (bs : List Block) (k : ℕ) (b : Block) → length bs ≡ k → k < 32 → set (padded bs) k b ≡ padded (bs ++ b ∷ [])
-padded-more bs k b e l =
-    let n : 32 - length bs ≡ suc (31 - k) = omega arith in
-    let m : 32 - length (bs ++ b ∷ []) ≡ 31 - k = omega (arith, length-append bs (b ∷ [])) in
-    ap (λ (j : ℕ). set (bs ++ replicate j (block 0 0 0 0)) k b) n
-    ∙ set-at bs (block 0 0 0 0) (replicate (31 - k) (block 0 0 0 0)) b k e
-    ∙ sym (append-assoc bs (b ∷ []) (replicate (31 - k) (block 0 0 0 0)))
-    ∙ ap (λ (j : ℕ). (bs ++ b ∷ []) ++ replicate j (block 0 0 0 0)) (sym m)
+-- the first 0 gives way to v
+number-stored : (vs : List ℕ) (k v : ℕ) → length vs ≡ k → k < 32 → set (vs ++ replicate (32 - k) 0) k v ≡ (vs ++ v ∷ []) ++ replicate (32 - (k + 1)) 0
+number-stored vs k v e l =
+    let n : 32 - k ≡ suc (31 - k) = omega arith in
+    let m : 32 - (k + 1) ≡ 31 - k = omega arith in
+    ap (λ (j : ℕ). set (vs ++ replicate j 0) k v) n
+    ∙ set-at vs 0 (replicate (31 - k) 0) v k e
+    ∙ sym (append-assoc vs (v ∷ []) (replicate (31 - k) 0))
+    ∙ ap (λ (j : ℕ). (vs ++ v ∷ []) ++ replicate j 0) (sym m)
 
--- the members of `is` are placed, and `all` are the blocks that were made and theirs
-pub record ItemsNotes (t : List ℕ) (m : ℕ) (before : List ℕ) (made : List Block) (count : ℕ) (after : List ℕ) (all : List Block) (is : List (Item Leaf)) : Type 0 where
+taken : (n : ℕ) (vs us : List ℕ) → length vs ≡ n → take n (vs ++ us) ≡ vs
+taken zero [] us e = refl
+taken zero (v ∷ vs) us e = absurd (omega arith)
+taken (suc n) [] us e = absurd (omega arith)
+taken (suc n) (v ∷ vs) us e = ap (λ (l : List ℕ). v ∷ l) (taken n vs us (omega arith))
+
+-- the block's k is how many members the item has
+item-counts : (m : ℕ) (i : Item Leaf) → blockOfItem m i .k ≡ length (membersOfItem i)
+unfolding blockOfItem blockOfGroup membersOfItem membersOfGroup
+item-counts m (one e) = refl
+item-counts m (spares min max) = refl
+item-counts m (permutation (grouped es st)) = refl
+
+-- the members of `is` are placed, and `all` are the numbers that were stored and those of their blocks
+pub record ItemsNotes (t : List ℕ) (m : ℕ) (before made : List ℕ) (count : ℕ) (after all : List ℕ) (is : List (Item Leaf)) : Type 0 where
   pub placed : Placed t m before (membersOfItems is) count after
-  pub cut : all ≡ made ++ blocksOfItems m is
+  pub cut : all ≡ made ++ numbersOf (blocksOfItems m is)
+  pub says : blocksIn all ≡ blocksIn made ++ blocksOfItems m is
 
 -- what the items from here on give is what all of them give
-pub record ItemsGoing (t : List ℕ) (at n : ℕ) (before : List ℕ) (places : List ℕ) (blocks : List Block) (p m k : ℕ) : Type 0 where
+pub record ItemsGoing (t : List ℕ) (at n : ℕ) (before places blocks : List ℕ) (p m k : ℕ) : Type 0 where
+  pub short : length t < 65536
   pub inside : p ≤ length t
   pub size : length places ≡ 32
   pub few : m ≤ 32
   pub turns : k ≤ n
-  pub made : List Block
-  pub stored : blocks ≡ padded made
+  pub made : List ℕ
+  pub stored : blocks ≡ made ++ replicate (32 - k) 0
   pub number : length made ≡ k
-  pub goes : (code next count : ℕ) (after : List ℕ) (all : List Block) → Noted (ItemsNotes t m places made count after all) t (items leafHead (n - k) m (drop p t)) code next
+  pub goes : (code next count : ℕ) (after all : List ℕ) → Noted (ItemsNotes t m places made count after all) t (items leafHead (n - k) m (drop p t)) code next
       → Noted (ItemsNotes t 0 before [] count after all) t (items leafHead n 0 (drop at t)) code next
 
-pub items-start : (t : List ℕ) (at n : ℕ) (before : List ℕ) (blocks : List Block) → at ≤ length t → length before ≡ 32 → blocks ≡ padded [] → ItemsGoing t at n before before blocks at 0 0
-items-start t at n before blocks i z e = record {
+pub items-start : (t : List ℕ) (at n : ℕ) (before blocks : List ℕ) → length t < 65536 → at ≤ length t → length before ≡ 32 → blocks ≡ replicate 32 0 → ItemsGoing t at n before before blocks at 0 0
+items-start t at n before blocks b i z e = record {
+  short = b;
   inside = i;
   size = z;
   few = omega arith;
@@ -59,72 +77,83 @@ items-start t at n before blocks i z e = record {
       rw whole at s;
 }
 
-module _ {t : List ℕ} {at n : ℕ} {before places : List ℕ} {blocks : List Block} {p m k : ℕ} (g : ItemsGoing t at n before places blocks p m k) where
+module _ {t : List ℕ} {at n : ℕ} {before places blocks : List ℕ} {p m k : ℕ} (g : ItemsGoing t at n before places blocks p m k) where
   module _ (some : k < n) where
     items-open : (o : Read (Item Leaf)) → item leafHead m (drop p t) ≡ o → items leafHead (n - k) m (drop p t) ≡ thenItems m o (items leafHead (n - (k + 1)))
     unfolding items
     items-open o q =
-        let one : n - k ≡ suc (n - (k + 1)) = omega arith in
-        ap (λ (j : ℕ). items leafHead j m (drop p t)) one ∙ ap (λ (v : Read (Item Leaf)). thenItems m v (items leafHead (n - (k + 1)))) q
+        let next : n - k ≡ suc (n - (k + 1)) = omega arith in
+        ap (λ (j : ℕ). items leafHead j m (drop p t)) next ∙ ap (λ (v : Read (Item Leaf)). thenItems m v (items leafHead (n - (k + 1)))) q
 
-    pub items-stop : (code : ℕ) → item leafHead m (drop p t) ≡ refuse code → 0 < code → (r : Outline) (low high : ℕ) (after : List ℕ) → r .code ≡ code
-        → Noted (RecordNotes t low high r after) t (items leafHead n 0 (drop at t)) (r .code) (r .next)
+    pub items-stop : {P : Item Leaf → Type 0} {Tells : List (Item Leaf) → Type 0} {code place next : ℕ} → Noted P t (item leafHead m (drop p t)) code place → 0 < code
+        → Noted Tells t (items leafHead n 0 (drop at t)) code next
     unfolding thenItems
-    items-stop code q l r low high after e =
-        let w = noted-stopped (g .goes code 0 0 [] [] (stopped (items-open (refuse code) q) l)) (λ (z : code ≡ 0). omega arith) in
-        stopped-as (w .0) l e
+    items-stop {code = code} s l =
+        let w = noted-stopped _ _ _ _ _ s l in
+        stopped-on (g .goes code 0 0 [] [] (stopped (items-open (refuse code) (w .0)) l (w .1))) l
 
-    put-item : (i : Item Leaf) (count : ℕ) (b : Block) (places′ : List ℕ) (o : Read (List (Item Leaf))) (code next c : ℕ) (after : List ℕ) (all : List Block)
-        → ItemNotes t m places count b places′ i → Noted (ItemsNotes t count places′ (g .made ++ b ∷ []) c after all) t o code next
+    put-item : (i : Item Leaf) (v : ℕ) (places′ : List ℕ) (o : Read (List (Item Leaf))) (code next c : ℕ) (after all : List ℕ)
+        → ItemNotes t m places v places′ i → Noted (ItemsNotes t (m + length (membersOfItem i)) places′ (g .made ++ v ∷ []) c after all) t o code next
         → Noted (ItemsNotes t m places (g .made) c after all) t (putItem i o) code next
-    unfolding putItem membersOfItems blocksOfItems
-    put-item i count b places′ o code next c after all h (stopped q l) = stopped (ap (putItem i) q) l
-    put-item i count b places′ o code next c after all h (noted is q z w j) =
+    unfolding putItem membersOfItems blocksOfItems numbersOf blocksIn
+    put-item i v places′ o code next c after all h (stopped q l s) = stopped (ap (putItem i) q) l s
+    put-item i v places′ o code next c after all h (noted is q z w j) =
+        let m′ = m + length (membersOfItem i) in
         noted (i ∷ is) (ap (putItem i) q) z
         (record {
           placed = placed-then (h .placed) (w .placed);
-          cut = w .cut ∙ append-assoc (g .made) (b ∷ []) (blocksOfItems count is)
-              ∙ ap₂ (λ (x : Block) (y : ℕ). g .made ++ x ∷ blocksOfItems y is) (h .shape) (sym (h .placed .counts));
+          cut = w .cut ∙ append-assoc (g .made) (v ∷ []) (numbersOf (blocksOfItems m′ is))
+              ∙ ap (λ (x : ℕ). g .made ++ x ∷ numbersOf (blocksOfItems m′ is)) (h .says .0);
+          says = w .says ∙ ap (λ (l : List Block). l ++ blocksOfItems m′ is) (blocksIn-append (g .made) (v ∷ []))
+              ∙ append-assoc (blocksIn (g .made)) (blockIn v ∷ []) (blocksOfItems m′ is)
+              ∙ ap (λ (b : Block). blocksIn (g .made) ++ b ∷ blocksOfItems m′ is) (h .says .1);
         }) j
 
-    pub items-more : {code next count : ℕ} {b : Block} {places′ : List ℕ} → n ≤ 32 → length places′ ≡ 32 → code ≡ 0
-        → Noted (ItemNotes t m places count b places′) t (item leafHead m (drop p t)) code next → ItemsGoing t at n before places′ (set blocks k b) next count (k + 1)
+    pub items-more : {next v : ℕ} {places′ : List ℕ} → n ≤ 32 → length places′ ≡ 32 → next ≤ 16777215
+        → Noted (ItemNotes t m places v places′) t (item leafHead m (drop p t)) (faultIn next) next → (m′ : ℕ) → m′ ≡ m + blockIn v .k → ItemsGoing t at n before places′ (set blocks k v) next m′ (k + 1)
     unfolding thenItems
-    items-more {next = next} {count = count} {b = b} {places′ = places′} limit size z s =
-        let w = noted-read s z in
-        let c : m + length (membersOfItem (w .0)) ≡ count = w .2 .placed .counts in
+    items-more {next = next} {v = v} {places′ = places′} limit size low s m′ e =
+        let w = noted-read _ _ _ _ _ s (omega arith) in
+        let c : m′ ≡ m + length (membersOfItem (w .0)) = e ∙ ap (λ (b : Block). m + b .k) (w .2 .says .1) ∙ ap (λ (j : ℕ). m + j) (item-counts m (w .0)) in
+        let few = item-limit leafHead m (drop p t) (w .0) (drop next t) (g .few) (w .1) in
         record {
+          short = g .short;
           inside = w .3;
           size = size;
-          few = omega (arith, item-limit leafHead m (drop p t) (w .0) (drop next t) (g .few) (w .1));
+          few = omega arith;
           turns = omega arith;
-          made = g .made ++ b ∷ [];
-          stored = ap (λ (l : List Block). set l k b) (g .stored) ∙ padded-more (g .made) k b (g .number) (omega arith);
-          number = length-append (g .made) (b ∷ []) ∙ omega (arith, g .number);
+          made = g .made ++ v ∷ [];
+          stored = ap (λ (l : List ℕ). set l k v) (g .stored) ∙ number-stored (g .made) k v (g .number) (omega arith);
+          number = length-append (g .made) (v ∷ []) ∙ omega (arith, g .number);
           goes = λ code next′ count′ after all h.
               g .goes code next′ count′ after all
               (noted-as (items-open (got (w .0) (drop next t)) (w .1))
-              (put-item (w .0) count b places′ _ code next′ count′ after all (w .2)
-              (subst (λ (j : ℕ). Noted (ItemsNotes t count places′ (g .made ++ b ∷ []) count′ after all) t (items leafHead (n - (k + 1)) j (drop next t)) code next′) (sym c) h)));
+              (put-item (w .0) v places′ _ code next′ count′ after all (w .2)
+              (subst (λ (j : ℕ). Noted (ItemsNotes t j places′ (g .made ++ v ∷ []) count′ after all) t (items leafHead (n - (k + 1)) j (drop next t)) code next′) c h)));
         }
 
-  pub items-end : n ≤ k → n ≤ 32 → (low high : ℕ)
-      → Noted (λ (is : List (Item Leaf)). Outlined t low high (record { code = 0; next = p; low = low; high = high; kind = 0x10; count = n; blocks = blocks; members = m }) places (recordOf is)) t (items leafHead n 0 (drop at t)) 0 p
-  unfolding items membersOfItems blocksOfItems blocksOf bodyKind membersOf Standing
-  items-end done limit low high =
+  pub items-end : n ≤ k → n ≤ 32 → (r : ℕ) → r ≡ p + m * 65536 → Noted (RecordNotes t n (countIn r) blocks places) t (items leafHead n 0 (drop at t)) (faultIn r) (placeIn r)
+  unfolding items membersOfItems blocksOfItems numbersOf blocksIn blocksOf bodyKind membersOf Standing
+  items-end done limit r e =
       let none : n - k ≡ 0 = omega arith in
-      let w = noted-read
+      let turns : k ≡ n = omega (arith, g .turns) in
+      let i = g .inside in
+      let b = g .short in
+      let few = g .few in
+      let place : placeIn r ≡ p = omega arith in
+      let count : countIn r ≡ m = omega arith in
+      let sound : faultIn r ≡ 0 = omega arith in
+      let w = noted-read _ _ _ _ _
       (g .goes 0 p m places (g .made)
       (subst (λ (j : ℕ). Noted (ItemsNotes t m places (g .made) m places (g .made)) t (items leafHead j m (drop p t)) 0 p) (sym none)
-      (noted [] refl refl (record { placed = placed-none t m places; cut = sym (append-nil (g .made)) }) (g .inside)))) refl in
-      noted (w .0) (w .1) refl
+      (noted [] refl refl (record { placed = placed-none t m places; cut = sym (append-nil (g .made)); says = sym (append-nil (blocksIn (g .made))) }) (g .inside)))) refl in
+      let long : length (g .made) ≡ n = g .number ∙ turns in
+      noted (w .0) (w .1 ∙ ap (λ (q : ℕ). got (w .0) (drop q t)) (sym place)) sound
       (record {
-        lower = refl;
-        upper = refl;
-        kind = refl;
-        few = limit;
-        number = omega (arith, g .number, g .turns) ∙ ap length (w .2 .cut);
-        cut = g .stored ∙ ap padded (w .2 .cut);
-        size = sym (w .2 .placed .counts) ∙ omega arith;
-        stands = w .2 .placed .stands [] tt;
-      }) (w .3)
+        named = refl;
+        count = sym long ∙ sym (length-blocksIn (g .made)) ∙ ap length (w .2 .says);
+        cut = ap (λ (l : List ℕ). blocksIn (take n l)) (g .stored) ∙ ap blocksIn (taken n (g .made) (replicate (32 - k) 0) long) ∙ w .2 .says;
+        stored = g .stored ∙ ap₂ (λ (l : List ℕ) (j : ℕ). l ++ replicate (32 - j) 0) (w .2 .cut) turns;
+        size = count ∙ sym (w .2 .placed .counts) ∙ omega arith;
+        stands = subst (λ (j : ℕ). Standing t (membersOfItems (w .0)) (take j places)) (sym count) (w .2 .placed .stands [] tt);
+      }) (omega (arith, w .3))

@@ -12,7 +12,7 @@ use Rattle.grammar.specs.Template.{Length, anyLength, between, template}
 use Rattle.grammar.specs.Record.{Head, kindOf, countFault, boundsFault}
 use Rattle.grammar.specs.Read.{refuse, orRefuse, refuseOr, mapRead}
 use Rattle.grammar.specs.Whole.{fewest, clashes, contents, bodyHere, templateHere}
-use Rattle.template.specs.Layouts.{lengthOf}
+use Rattle.template.specs.Fronts.{lengthOf}
 use Rattle.grammar.proofs.RecordParts.{kind-at, Counts, count-inv}
 use Rattle.grammar.proofs.ReadApart.{refuse-is, refuse-not}
 

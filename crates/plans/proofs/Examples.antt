@@ -1,0 +1,49 @@
+-- The definitions on small examples: a length attribute and a set of {?, 1}, and bytes that are refused. Assumes nothing.
+use mathlib.Core.Path.{_≡_, refl}
+use mathlib.Core.Bool.{_||_, _&&_, cond}
+use mathlib.Core.List.{List, [], _∷_, _++_}
+use Prim.Native.Nat.{ℕ}
+use native.Mathlib.Omega.{arith}
+use lib.Dec.{eqb}
+use lib.ListN.{length, take, replicate}
+use Rattle.integers.specs.Integer.{signed, intAt}
+use Rattle.format.specs.Bounds.{badBounds}
+use Rattle.blocks.specs.Numbers.{numberOf, blockIn, numbersOf, blocksIn}
+use Rattle.grammar.specs.Element.{leaf}
+use Rattle.grammar.specs.Leaf.{single, any, singleHead, leafHead}
+use Rattle.grammar.specs.Record.{countFault, boundsFault, groupHead, head}
+use Rattle.grammar.specs.Read.{refuse, ended, mapRead}
+use Rattle.grammar.specs.Reading.{uncounted, opened, elem}
+use Rattle.grammar.specs.Template.{noStar, grouped, setOf, between, membersOfGroup, membersOf}
+use Rattle.grammar.specs.Whole.{clashes, numbered, putMember, thenMembers, member, members, contents, bodyHere, templateHere, readTemplate}
+use Rattle.grammar.specs.Blocks.{blockOfGroup, blocksOf, bodyKind, StandsAt, Standing}
+use Rattle.plans.specs.Plans.{noPlan, Planned, PlanOf, refusedPlan, aPlan}
+use Rattle.plans.specs.declared.Plan.{Plan}
+
+bytes : List ℕ
+bytes = 0x30 ∷ 1 ∷ 3 ∷ 0x11 ∷ 2 ∷ 0x03 ∷ 0x01 ∷ 1 ∷ 0 ∷ 0 ∷ 0 ∷ []
+
+plan : Plan
+plan = record { number = 0; low = 1; high = 3; kind = 0x11; count = 1; members = 2; blocks = 512 ∷ replicate 31 0; places = 5 ∷ 6 ∷ replicate 30 0 }
+
+set-planned : PlanOf bytes plan
+unfolding bytes plan readTemplate templateHere bodyHere contents members member numbered thenMembers putMember elem opened head groupHead leafHead singleHead boundsFault countFault clashes uncounted ended mapRead intAt signed blocksOf blockOfGroup bodyKind membersOf membersOfGroup numberOf blockIn numbersOf blocksIn Standing
+set-planned =
+    aPlan (between 1 3) (setOf (grouped (leaf any ∷ leaf (single (lib.IntN.pos 1)) ∷ []) noStar)) refl refl
+    (record {
+      lower = refl;
+      upper = refl;
+      kind = refl;
+      fewBlocks = omega arith;
+      count = refl;
+      cut = refl;
+      numbers = refl;
+      fewMembers = omega arith;
+      size = refl;
+      stands = (record { inside = omega arith; leaves = 1; rest = 0x01 ∷ 1 ∷ 0 ∷ 0 ∷ 0 ∷ []; reads = refl }, (record { inside = omega arith; leaves = 1; rest = []; reads = refl }, tt));
+    })
+
+-- the empty template is 3
+none-planned : PlanOf [] (noPlan 3)
+unfolding readTemplate templateHere bodyHere ended
+none-planned = refusedPlan 3 refl (omega arith) refl

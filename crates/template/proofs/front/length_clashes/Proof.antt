@@ -1,0 +1,14 @@
+-- `template::front::length_clashes` meets its contract: it is the definition's own test, where an attribute is given. Assumes nothing.
+use Rattle.template.proofs.WholeTemplates.{clashes-is}
+use Rattle.template.proofs.front.length_clashes.Statement.{statement}
+use Rattle.template.proofs.front.length_clashes.Tie as tie
+use Rattle.template.proofs.front.length_clashes.Reads as reads
+use Rattle.template.proofs.front.length_clashes.Lts as lts
+
+returns : tie.Need-returns
+returns c =
+    let a = c .before .args in
+    clashes-is (a .heads .given) (a .heads .min) (a .heads .max) (a .kind) (a .n)
+
+pub length-clashes-spec : {M : Type 1} → statement M
+length-clashes-spec = tie.close (tie.spec returns)
