@@ -2,10 +2,12 @@
 -- Examples       == every refusal row and every open point about reading, and elements that match, computed
 -- RecordParts    == one record at a place: its kind, and the fault of its count
 -- ReadApart      == what was read, taken apart: the parts of an element template, and where they stand
+-- LeafBounds     == a leaf matches what lies between its bounds
 -- RefusalNumbers == which numbers a refusal can have
 -- MemberLimit    == what was accepted has at most 32 members
 mod Examples
 pub mod RecordParts
 pub mod ReadApart
+pub mod LeafBounds
 pub mod RefusalNumbers
 pub mod MemberLimit

@@ -1,5 +1,6 @@
 -- The leaves of the integer family: "A leaf is a record 01, 02 or 03".
 -- Leaf == 01 the integer itself, 02 a range with both its bounds, 03 any value
+-- lowerOf l, upperOf l == the bounds of the leaf l, both included: 01 is the range of its integer alone, 03 that of all 32-bit integers
 -- singleHead s == the 01 at the front of s, or its fault 3; rangeHead s == the 02 there, or its fault 3 or 6
 -- leafHead s == the leaf at the front of s, or its own fault: 4 for any other kind, 3 for a short body, 6 for lower above upper
 -- Assumes nothing: these are definitions.
@@ -8,7 +9,7 @@ use mathlib.Core.List.{List}
 use mathlib.Core.Bool.{cond}
 use lib.ListN.{length, drop}
 use lib.Dec.{ltb, eqb}
-use lib.IntN.{ℤ}
+use lib.IntN.{ℤ, pos, negsuc}
 use lib.Signed.{ltZ}
 use Rattle.integers.specs.Integer.{intAt}
 use Rattle.grammar.specs.Record.{Head, fault, leafHere, kindOf}
@@ -17,6 +18,16 @@ pub data Leaf : Type 0 where
   single : ℤ → Leaf
   range : ℤ → ℤ → Leaf
   any : Leaf
+
+unfoldable pub lowerOf : Leaf → ℤ
+lowerOf (single z) = z
+lowerOf (range lower upper) = lower
+lowerOf any = negsuc 2147483647
+
+unfoldable pub upperOf : Leaf → ℤ
+upperOf (single z) = z
+upperOf (range lower upper) = upper
+upperOf any = pos 2147483647
 
 unfoldable pub singleHead : List ℕ → Head Leaf
 singleHead s =
