@@ -18,7 +18,7 @@ use Rattle.grammar.specs.Leaf.{Leaf, leafHead}
 use Rattle.grammar.specs.Read.{got}
 use Rattle.grammar.specs.Reading.{counted, outermost}
 use Rattle.grammar.specs.Matches.{matches}
-use Rattle.elements.specs.Contract.{LeafHere}
+use Rattle.elements.specs.Leaves.{LeafHere}
 use Rattle.element_match.specs.Contract.{ElementAt, LeafHit}
 use Rattle.elements.proofs.LeafByKind as by-kind
 use Rattle.element_match.proofs.LeafTest as leaves

@@ -9,7 +9,7 @@ use lib.ListN.{getD}
 use Rattle.integers.specs.Integer.{intAt, eqZ}
 use Rattle.grammar.specs.Leaf.{Leaf}
 use Rattle.grammar.specs.Matches.{leafMatches}
-use Rattle.elements.specs.Contract.{LeafHere}
+use Rattle.elements.specs.Leaves.{LeafHere}
 use Rattle.elements.proofs.LeafByKind.{single-says, range-says, any-says}
 use Rattle.element_match.specs.Contract.{LeafHit}
 

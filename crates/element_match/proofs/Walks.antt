@@ -15,7 +15,7 @@ use Rattle.grammar.specs.Read.{got}
 use Rattle.grammar.specs.Reading.{counted, many, elem}
 use Rattle.grammar.proofs.ReadApart.{grouped, many-inv, many-none}
 use Rattle.grammar.specs.Matches.{matches, anyMatches, matchesBy}
-use Rattle.elements.specs.Contract.{LeafHere}
+use Rattle.elements.specs.Leaves.{LeafHere}
 use Rattle.elements.proofs.ElementByKind.{AGroup}
 use Rattle.elements.proofs.ElementByKind as by-kind
 use Rattle.element_match.specs.Contract.{ElementAt, HitAt, LeafHit, Members, AnyHit, NoneHit}

@@ -14,7 +14,7 @@ use lib.ListN.{length, drop}
 use lib.IntN.{ℤ}
 use Rattle.grammar.specs.Element.{Elem, Elems}
 use Rattle.grammar.specs.Leaf.{Leaf, leafHead}
-use Rattle.elements.specs.Contract.{ElementHere, LeafSays}
+use Rattle.elements.specs.Leaves.{ElementHere, LeafSays}
 use Rattle.grammar.specs.Read.{got}
 use Rattle.grammar.specs.Reading.{counted, many, elem, outermost}
 use Rattle.grammar.specs.Matches.{leafMatches, matches, anyMatches}

@@ -1,5 +1,5 @@
 // Does this integer match the element template that stands here.
-ghost use Rattle.elements.specs.Contract.{LeafHere};
+ghost use Rattle.elements.specs.Leaves.{LeafHere};
 ghost use Rattle.element_match.specs.Contract.{ElementAt, HitAt, LeafHit, Members, AnyHit, NoneHit};
 use format::ANY_SIZE;
 use format::COMPLEMENT;

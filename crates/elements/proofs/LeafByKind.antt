@@ -1,14 +1,21 @@
--- A leaf where it stands, by its kind: its size, and what is said of it. Assumes nothing.
--- leaf-fits, single-fits, range-fits: how far it reaches. single-says, range-says, any-says: f of the leaf, from its bounds.
-use mathlib.Core.Path.{_≡_, sym, ap, _∙_}
+-- A leaf where it stands, by its kind: which one it is, its size, and its bounds. Assumes nothing.
+-- LeafIs t at l size <-> the leaf l stands at `at`, in so many bytes
+-- leaf-fits: it has a kind. single-is, range-is, any-is: which leaf it is. single-bounds, range-bounds, any-bounds: its bounds.
+use mathlib.Core.Path.{_≡_, refl, sym, ap, _∙_}
 use mathlib.Core.List.{List}
 use Prim.Native.Nat.{ℕ, _+_, _≤_}
 use native.Mathlib.Omega.{arith}
+use lib.IntN.{ℤ, pos, negsuc}
 use lib.ListN.{length, getD, drop}
 use Rattle.integers.specs.Integer.{intAt}
-use Rattle.grammar.specs.Leaf.{Leaf, single, range, any}
+use Rattle.grammar.specs.Record.{leafHere, head}
+use Rattle.grammar.specs.Leaf.{Leaf, single, range, any, lowerOf, upperOf, leafHead}
 use Rattle.grammar.proofs.ReadApart.{LeafAt, singleAt, rangeAt, anyAt, leaf-at}
-use Rattle.elements.specs.Contract.{LeafHere, LeafSays}
+use Rattle.elements.specs.Leaves.{LeafHere, BoundsHere, LeafSays}
+
+pub record LeafIs (t : List ℕ) (at : ℕ) (l : Leaf) (size : ℕ) : Type 0 where
+  pub fits : at + size ≤ length t
+  pub reads : head leafHead (drop at t) ≡ leafHere l (drop (at + size) t)
 
 module _ (t : List ℕ) (at : ℕ) (p : LeafHere t at) where
   here : LeafAt t at (p .what) (p .rest)
@@ -18,29 +25,62 @@ module _ (t : List ℕ) (at : ℕ) (p : LeafHere t at) where
   leaf-fits = go here
     where
       go : LeafAt t at (p .what) (p .rest) → at + 1 ≤ length t
-      go (singleAt k l e r) = omega arith
-      go (rangeAt k l o e r) = omega arith
-      go (anyAt k l e r) = omega arith
+      go (singleAt k f e r) = omega arith
+      go (rangeAt k f o e r) = omega arith
+      go (anyAt k f e r) = omega arith
 
-  pub single-fits : getD t at 0 ≡ 1 → at + 5 ≤ length t
-  single-fits q = go here
+  pub single-is : getD t at 0 ≡ 1 → LeafIs t at (single (intAt t (at + 1))) 5
+  single-is q = go here
     where
-      go : LeafAt t at (p .what) (p .rest) → at + 5 ≤ length t
-      go (singleAt k l e r) = l
-      go (rangeAt k l o e r) = absurd (omega arith)
-      go (anyAt k l e r) = absurd (omega arith)
+      go : LeafAt t at (p .what) (p .rest) → LeafIs t at (single (intAt t (at + 1))) 5
+      go (singleAt k f e r) = record { fits = f; reads = p .reads ∙ cc }
+      go (rangeAt k f o e r) = absurd (omega arith)
+      go (anyAt k f e r) = absurd (omega arith)
 
-  pub range-fits : getD t at 0 ≡ 2 → at + 9 ≤ length t
-  range-fits q = go here
+  pub range-is : getD t at 0 ≡ 2 → LeafIs t at (range (intAt t (at + 1)) (intAt t (at + 5))) 9
+  range-is q = go here
     where
-      go : LeafAt t at (p .what) (p .rest) → at + 9 ≤ length t
-      go (singleAt k l e r) = absurd (omega arith)
-      go (rangeAt k l o e r) = l
-      go (anyAt k l e r) = absurd (omega arith)
+      go : LeafAt t at (p .what) (p .rest) → LeafIs t at (range (intAt t (at + 1)) (intAt t (at + 5))) 9
+      go (singleAt k f e r) = absurd (omega arith)
+      go (rangeAt k f o e r) = record { fits = f; reads = p .reads ∙ cc }
+      go (anyAt k f e r) = absurd (omega arith)
 
+  pub any-is : (getD t at 0 ≡ 1 → ⊥) → (getD t at 0 ≡ 2 → ⊥) → LeafIs t at any 1
+  any-is n₁ n₂ = go here
+    where
+      go : LeafAt t at (p .what) (p .rest) → LeafIs t at any 1
+      go (singleAt k f e r) = absurd (n₁ k)
+      go (rangeAt k f o e r) = absurd (n₂ k)
+      go (anyAt k f e r) = record { fits = f; reads = p .reads ∙ cc }
+
+module _ (t : List ℕ) (at : ℕ) where
+  -- one leaf stands at a place
+  bounds-of : (l : Leaf) (size : ℕ) (lower upper : ℤ) → LeafIs t at l size → lower ≡ lowerOf l → upper ≡ upperOf l → BoundsHere t at lower upper (at + size)
+  bounds-of l size lower upper i a b = record {
+    inside = i .fits;
+    right = λ l′ rest r.
+        let same : l ≡ l′ = cc in
+        let after : drop (at + size) t ≡ rest = cc in
+        (a ∙ ap lowerOf same, b ∙ ap upperOf same, after);
+  }
+
+  module _ (lower upper : ℤ) where
+    pub single-bounds : LeafIs t at (single (intAt t (at + 1))) 5 → lower ≡ intAt t (at + 1) → upper ≡ intAt t (at + 1) → BoundsHere t at lower upper (at + 5)
+    unfolding lowerOf upperOf
+    single-bounds i = bounds-of _ 5 lower upper i
+
+    pub range-bounds : LeafIs t at (range (intAt t (at + 1)) (intAt t (at + 5))) 9 → lower ≡ intAt t (at + 1) → upper ≡ intAt t (at + 5) → BoundsHere t at lower upper (at + 9)
+    unfolding lowerOf upperOf
+    range-bounds i = bounds-of _ 9 lower upper i
+
+  pub any-bounds : LeafIs t at any 1 → BoundsHere t at (negsuc 2147483647) (pos 2147483647) (at + 1)
+  unfolding lowerOf upperOf
+  any-bounds i = bounds-of any 1 _ _ i refl refl
+
+module _ (t : List ℕ) (at : ℕ) (p : LeafHere t at) where
   module _ {A : Type 0} (f : Leaf → A) (a : A) where
     pub single-says : getD t at 0 ≡ 1 → a ≡ f (single (intAt t (at + 1))) → LeafSays f t at a (at + 5)
-    single-says q h = record { inside = single-fits q; right = λ l rest r. go l rest (leaf-at t at l rest r) }
+    single-says q h = record { inside = single-is t at p q .fits; right = λ l rest r. go l rest (leaf-at t at l rest r) }
       where
         go : (l : Leaf) (rest : List ℕ) → LeafAt t at l rest → (a ≡ f l) × (drop (at + 5) t ≡ rest)
         go l rest (singleAt k i e r) = (h ∙ sym (ap f e), sym r)
@@ -48,7 +88,7 @@ module _ (t : List ℕ) (at : ℕ) (p : LeafHere t at) where
         go l rest (anyAt k i e r) = absurd (omega arith)
 
     pub range-says : getD t at 0 ≡ 2 → a ≡ f (range (intAt t (at + 1)) (intAt t (at + 5))) → LeafSays f t at a (at + 9)
-    range-says q h = record { inside = range-fits q; right = λ l rest r. go l rest (leaf-at t at l rest r) }
+    range-says q h = record { inside = range-is t at p q .fits; right = λ l rest r. go l rest (leaf-at t at l rest r) }
       where
         go : (l : Leaf) (rest : List ℕ) → LeafAt t at l rest → (a ≡ f l) × (drop (at + 9) t ≡ rest)
         go l rest (singleAt k i e r) = absurd (omega arith)
@@ -56,7 +96,7 @@ module _ (t : List ℕ) (at : ℕ) (p : LeafHere t at) where
         go l rest (anyAt k i e r) = absurd (omega arith)
 
     pub any-says : (getD t at 0 ≡ 1 → ⊥) → (getD t at 0 ≡ 2 → ⊥) → a ≡ f any → LeafSays f t at a (at + 1)
-    any-says n₁ n₂ h = record { inside = leaf-fits; right = λ l rest r. go l rest (leaf-at t at l rest r) }
+    any-says n₁ n₂ h = record { inside = any-is t at p n₁ n₂ .fits; right = λ l rest r. go l rest (leaf-at t at l rest r) }
       where
         go : (l : Leaf) (rest : List ℕ) → LeafAt t at l rest → (a ≡ f l) × (drop (at + 1) t ≡ rest)
         go l rest (singleAt k i e r) = absurd (n₁ k)

@@ -13,9 +13,6 @@
 -- ScannedAll t left n from r <-> this of n of them
 -- afterLeaf from size == what is said of a leaf of so many bytes after `from`: a 65th is 8
 -- Answered o r       <-> r is the number for the whole reading o: the refusal's, never 0; or 0 where o is accepted
--- ElementHere t at   <-> an element template at depth 1 stands at `at`, with all that it holds
--- LeafHere t at      <-> a leaf stands at `at`
--- LeafSays f t at a next <-> for the leaf l that stands at `at`: a is f l, and `next` is the place after it
 -- leavesTo c         == the leaves so far
 -- Assumes nothing: these are definitions.
 use mathlib.Core.Path.{_≡_}
@@ -25,10 +22,10 @@ use Prim.Native.Nat.{ℕ, _+_, _-_, _/_, _%_, _≤_, _<_}
 use lib.Dec.{ltb, eqb}
 use lib.ListN.{length, getD, drop}
 use Rattle.grammar.specs.Element.{Elem, Elems}
-use Rattle.grammar.specs.Record.{Head, fault, leafHere, group, head}
+use Rattle.grammar.specs.Record.{Head, fault, leafHere, group}
 use Rattle.grammar.specs.Leaf.{Leaf, leafHead}
 use Rattle.grammar.specs.Read.{Read, refuse, got}
-use Rattle.grammar.specs.Reading.{Counted, counted, many, elem, outermost}
+use Rattle.grammar.specs.Reading.{Counted, counted, many, elem}
 
 abbrev pub faultIn : ℕ → ℕ
 faultIn r = r - 16777215
@@ -75,19 +72,3 @@ ScannedAll t left n from r = Noted (λ (c : Counted (Elems Leaf)). leavesTo c �
 
 abbrev pub afterLeaf : ℕ → ℕ → ℕ
 afterLeaf from size = cond (ltb 63 (countIn from)) (16777215 + 8) (from + 65536 + size)
-
-pub record ElementHere (t : List ℕ) (at : ℕ) : Type 0 where
-  pub inside : at ≤ length t
-  pub what : Elem Leaf
-  pub leaves : ℕ
-  pub rest : List ℕ
-  pub reads : outermost leafHead (drop at t) ≡ got (counted what leaves) rest
-
-pub record LeafHere (t : List ℕ) (at : ℕ) : Type 0 where
-  pub what : Leaf
-  pub rest : List ℕ
-  pub reads : head leafHead (drop at t) ≡ leafHere what rest
-
-pub record LeafSays {A : Type 0} (f : Leaf → A) (t : List ℕ) (at : ℕ) (a : A) (next : ℕ) : Type 0 where
-  pub inside : next ≤ length t
-  pub right : (l : Leaf) (rest : List ℕ) → head leafHead (drop at t) ≡ leafHere l rest → (a ≡ f l) × (drop next t ≡ rest)

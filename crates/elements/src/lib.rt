@@ -34,6 +34,8 @@ use format::TOO_LONG;
 use format::TOO_MANY;
 use integers::int_at;
 
+pub mod leaf; // the bounds of a leaf
+
 // The answer that says this refusal.
 pub fn refusal(code: u8) -> usize
     ensures { λ r. ⌜ r ≡ 16777215 + code ⌝ }

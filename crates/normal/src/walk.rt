@@ -1,7 +1,7 @@
 // The integers that an element template matches, from its bytes.
 ghost use mathlib.Core.List.{[], _∷_};
 ghost use Rattle.ranges.specs.Spans.{span};
-ghost use Rattle.elements.specs.Contract.{LeafHere};
+ghost use Rattle.elements.specs.Leaves.{LeafHere};
 ghost use Rattle.normal.specs.Contract.{LeafSet, Here, SetHere, Members, SetAny};
 use format::ANY_SIZE;
 use format::COMPLEMENT;

@@ -19,7 +19,7 @@ use Rattle.ranges.specs.Shown.{view, spans}
 use Rattle.integers.specs.Integer.{Word}
 use Rattle.ranges.specs.declared.Ranges.{Ranges}
 use Rattle.ranges.specs.Spans.{Span, span, holds, Ascending, edges}
-use Rattle.elements.specs.Contract.{LeafHere}
+use Rattle.elements.specs.Leaves.{LeafHere}
 use Rattle.normal.specs.Contract.{Here, Members, HereSet, AnySet}
 use Rattle.normal.proofs.Walks.{here-fits, group-fits, group-members, leaf-there, leaf-here-set, leaf-set-as, list-here-set, complement-here-set, Chain, chain-start, chain-here, chain-step, chain-ascending, chain-end, chain-small, chain-short, here-small, chain-at}
 use Rattle.normal.proofs.walk.any_of.Reads as any-of
