@@ -3,21 +3,23 @@
 -- HitAt t at x hit next <-> for the element template that stands at `at`: `hit` says whether it matches x, and `next` is the place after it
 -- LeafHit t at x hit next <-> the same as HitAt, for a leaf
 -- Members t at n left <-> n element templates with so many depths left stand at `at`
--- AnyHit t at n left x hit next <-> `hit` says whether at least one of them matches x, and `next` is the place after them
--- NoneHit t at n left x hit next <-> `hit` says whether none of them matches x, and `next` is the place after them
+-- turn turned b == b, or its opposite where `turned` holds
+-- WalkHit turned t at n left x hit next <-> `hit` says whether at least one of them matches x (turned false), or whether none of them
+--   does (turned true), and `next` is the place after them
 -- Assumes nothing: these are definitions.
 use mathlib.Core.Path.{_≡_}
-use mathlib.Core.Bool.{Bool, not}
+use mathlib.Core.Bool.{Bool, true, false, not}
 use mathlib.Core.List.{List}
 use Prim.Native.Nat.{ℕ, _≤_}
 use lib.ListN.{length, drop}
 use lib.IntN.{ℤ}
 use Rattle.grammar.specs.Element.{Elem, Elems}
 use Rattle.grammar.specs.Leaf.{Leaf, leafHead}
-use Rattle.elements.specs.Leaves.{ElementHere, LeafSays}
 use Rattle.grammar.specs.Read.{got}
+use Rattle.grammar.specs.Record.{leafHere, head}
 use Rattle.grammar.specs.Reading.{counted, many, elem, outermost}
 use Rattle.grammar.specs.Matches.{leafMatches, matches, anyMatches}
+use Rattle.elements.specs.Leaves.{ElementHere}
 
 abbrev pub ElementAt : List ℕ → ℕ → Type 0
 ElementAt t at = ElementHere t at
@@ -26,8 +28,9 @@ pub record HitAt (t : List ℕ) (at : ℕ) (x : ℤ) (hit : Bool) (next : ℕ) :
   pub inside : next ≤ length t
   pub right : (e : Elem Leaf) (k : ℕ) (rest : List ℕ) → outermost leafHead (drop at t) ≡ got (counted e k) rest → (hit ≡ matches e x) × (drop next t ≡ rest)
 
-abbrev pub LeafHit : List ℕ → ℕ → ℤ → Bool → ℕ → Type 0
-LeafHit t at x hit next = LeafSays (λ (l : Leaf). leafMatches l x) t at hit next
+pub record LeafHit (t : List ℕ) (at : ℕ) (x : ℤ) (hit : Bool) (next : ℕ) : Type 0 where
+  pub inside : next ≤ length t
+  pub right : (l : Leaf) (rest : List ℕ) → head leafHead (drop at t) ≡ leafHere l rest → (hit ≡ leafMatches l x) × (drop next t ≡ rest)
 
 pub record Members (t : List ℕ) (at n left : ℕ) : Type 0 where
   pub inside : at ≤ length t
@@ -37,12 +40,11 @@ pub record Members (t : List ℕ) (at n left : ℕ) : Type 0 where
   pub rest : List ℕ
   pub reads : many (elem leafHead left) n leaves (drop at t) ≡ got (counted found after) rest
 
-pub record AnyHit (t : List ℕ) (at n left : ℕ) (x : ℤ) (hit : Bool) (next : ℕ) : Type 0 where
-  pub inside : next ≤ length t
-  pub right : (k : ℕ) (es : Elems Leaf) (after : ℕ) (rest : List ℕ) → many (elem leafHead left) n k (drop at t) ≡ got (counted es after) rest
-      → (hit ≡ anyMatches es x) × (drop next t ≡ rest)
+abbrev pub turn : Bool → Bool → Bool
+turn false b = b
+turn true b = not b
 
-pub record NoneHit (t : List ℕ) (at n left : ℕ) (x : ℤ) (hit : Bool) (next : ℕ) : Type 0 where
+pub record WalkHit (turned : Bool) (t : List ℕ) (at n left : ℕ) (x : ℤ) (hit : Bool) (next : ℕ) : Type 0 where
   pub inside : next ≤ length t
   pub right : (k : ℕ) (es : Elems Leaf) (after : ℕ) (rest : List ℕ) → many (elem leafHead left) n k (drop at t) ≡ got (counted es after) rest
-      → (hit ≡ not (anyMatches es x)) × (drop next t ≡ rest)
+      → (hit ≡ turn turned (anyMatches es x)) × (drop next t ≡ rest)

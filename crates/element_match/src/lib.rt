@@ -1,17 +1,11 @@
 // Does this integer match the element template that stands here.
+ghost use mathlib.Core.Bool.{true, false};
 ghost use Rattle.elements.specs.Leaves.{LeafHere};
-ghost use Rattle.element_match.specs.Contract.{ElementAt, HitAt, LeafHit, Members, AnyHit, NoneHit};
-use format::ANY_SIZE;
-use format::COMPLEMENT;
+ghost use Rattle.element_match.specs.Contract.{ElementAt, HitAt, LeafHit, Members, WalkHit};
+use elements::leaf::bounds_at;
 use format::COUNT_SIZE;
 use format::DEPTH_MOST;
 use format::LIST;
-use format::RANGE;
-use format::RANGE_SIZE;
-use format::SINGLE;
-use format::SINGLE_SIZE;
-use integers::int_at;
-use integers::same;
 use integers::within;
 
 // Whether what was walked over matches, and the place after it.
@@ -25,41 +19,29 @@ fn leaf_hit(t: &[u8], at: usize, x: i32) -> Walk
     requires { ⌜ LeafHere (now t) at ⌝ }
     ensures { λ r. ⌜ LeafHit (now (t .entry)) at x (r .hit) (r .next) ⌝ }
 {
-    let kind = t[at];
-    if kind == SINGLE {
-        return Walk {
-            hit: same(int_at(t, at + 1), x),
-            next: at + SINGLE_SIZE,
-        };
-    }
-    if kind == RANGE {
-        return Walk {
-            hit: within(x, int_at(t, at + 1), int_at(t, at + 5)),
-            next: at + RANGE_SIZE,
-        };
-    }
+    let b = bounds_at(t, at);
     Walk {
-        hit: true,
-        next: at + ANY_SIZE,
+        hit: within(x, b.lower, b.upper),
+        next: b.next,
     }
 }
 
-// Whether at least one of the n element templates at `at` matches x.
+// Whether at least one of the n element templates at `at` matches x. A leaf is read before any other: most members are leaves.
 fn any_of(t: &[u8], at: usize, n: usize, x: i32, left: usize) -> Walk
     requires { ⌜ Members (now t) at n left ⌝ }
-    ensures { λ r. ⌜ AnyHit (now (t .entry)) at n left x (r .hit) (r .next) ⌝ }
+    ensures { λ r. ⌜ WalkHit false (now (t .entry)) at n left x (r .hit) (r .next) ⌝ }
 {
     let mut hit = false;
     let mut p = at;
     let mut more = n;
     while 0 < more {
         let kind = t[p];
-        let w = if kind == LIST {
-            any_of(t, p + COUNT_SIZE, t[p + 1] as usize, x, left - 1)
-        } else if kind == COMPLEMENT {
-            none_of(t, p + COUNT_SIZE, t[p + 1] as usize, x, left - 1)
-        } else {
+        let w = if kind < LIST {
             leaf_hit(t, p, x)
+        } else if kind == LIST {
+            any_of(t, p + COUNT_SIZE, t[p + 1] as usize, x, left - 1)
+        } else {
+            none_of(t, p + COUNT_SIZE, t[p + 1] as usize, x, left - 1)
         };
         hit = hit | w.hit;
         p = w.next;
@@ -71,19 +53,19 @@ fn any_of(t: &[u8], at: usize, n: usize, x: i32, left: usize) -> Walk
 // Whether none of the n element templates at `at` matches x.
 fn none_of(t: &[u8], at: usize, n: usize, x: i32, left: usize) -> Walk
     requires { ⌜ Members (now t) at n left ⌝ }
-    ensures { λ r. ⌜ NoneHit (now (t .entry)) at n left x (r .hit) (r .next) ⌝ }
+    ensures { λ r. ⌜ WalkHit true (now (t .entry)) at n left x (r .hit) (r .next) ⌝ }
 {
     let mut none = true;
     let mut p = at;
     let mut more = n;
     while 0 < more {
         let kind = t[p];
-        let w = if kind == LIST {
-            any_of(t, p + COUNT_SIZE, t[p + 1] as usize, x, left - 1)
-        } else if kind == COMPLEMENT {
-            none_of(t, p + COUNT_SIZE, t[p + 1] as usize, x, left - 1)
-        } else {
+        let w = if kind < LIST {
             leaf_hit(t, p, x)
+        } else if kind == LIST {
+            any_of(t, p + COUNT_SIZE, t[p + 1] as usize, x, left - 1)
+        } else {
+            none_of(t, p + COUNT_SIZE, t[p + 1] as usize, x, left - 1)
         };
         none = none & !w.hit;
         p = w.next;
@@ -98,11 +80,11 @@ pub fn match_element(t: &[u8], at: usize, x: i32) -> Walk
     ensures { λ r. ⌜ HitAt (now (t .entry)) at x (r .hit) (r .next) ⌝ }
 {
     let kind = t[at];
+    if kind < LIST {
+        return leaf_hit(t, at, x);
+    }
     if kind == LIST {
         return any_of(t, at + COUNT_SIZE, t[at + 1] as usize, x, DEPTH_MOST - 1);
     }
-    if kind == COMPLEMENT {
-        return none_of(t, at + COUNT_SIZE, t[at + 1] as usize, x, DEPTH_MOST - 1);
-    }
-    leaf_hit(t, at, x)
+    none_of(t, at + COUNT_SIZE, t[at + 1] as usize, x, DEPTH_MOST - 1)
 }

@@ -1,18 +1,24 @@
 -- An element template that was read where it stands, by its kind. Assumes nothing.
--- here-fits: it has a kind. by-leaf: of no other kind than a leaf's it is a leaf. by-group: of the kind of a list or a complement it is one, with
--- its members behind its count.
+-- here-fits, kind-most: it has a kind, 5 at most. by-leaf: of a kind below 4 it is a leaf (leaf-there: as LeafHere says). by-group: of the kind of a list or a complement it is
+-- one, with its members behind its count. bounds-match: a leaf matches what lies between its bounds.
 use mathlib.Core.Path.{_≡_, refl, sym, ap, ap₂, _∙_}
-use mathlib.Core.Bool.{Bool, true, false, cond}
+use mathlib.Core.Bool.{Bool, true, false, _&&_, cond}
 use mathlib.Core.List.{List}
 use Prim.Native.Nat.{ℕ, _+_, _-_, _≤_, _<_}
 use native.Mathlib.Omega.{arith}
+use lib.IntN.{ℤ}
+use lib.Signed.{leZ}
 use lib.ListN.{length, getD, drop}
+use Rattle.integers.specs.Integer.{Word}
 use Rattle.grammar.specs.Element.{Elem, leaf, Elems}
 use Rattle.grammar.specs.Record.{leafHere, head}
 use Rattle.grammar.specs.Leaf.{Leaf, leafHead}
 use Rattle.grammar.specs.Read.{got}
 use Rattle.grammar.specs.Reading.{counted, many, elem}
+use Rattle.grammar.specs.Matches.{matchesBy, matches}
 use Rattle.grammar.proofs.ReadApart.{grouped, Got, gotLeaf, gotGroup, elem-inv, LeafAt, singleAt, rangeAt, anyAt, leaf-at, group-at}
+use Rattle.grammar.proofs.LeafBounds.{leaf-between}
+use Rattle.elements.specs.Leaves.{LeafHere, BoundsHere}
 
 -- a leaf's kind is no list's and no complement's
 leaf-kind : (t : List ℕ) (at : ℕ) (l : Leaf) (rest : List ℕ) → LeafAt t at l rest → (at + 1 ≤ length t) × (getD t at 0 ≤ 3)
@@ -46,23 +52,37 @@ module _ (t : List ℕ) (at left k : ℕ) (e : Elem Leaf) (k′ : ℕ) (rest : L
   whole : Got leafHead left k (drop at t) e k′ rest
   whole = elem-inv leafHead left k (drop at t) e k′ rest r
 
+  kind-here : (at + 1 ≤ length t) × (getD t at 0 ≤ 5)
+  kind-here = go whole
+    where
+      go : Got leafHead left k (drop at t) e k′ rest → (at + 1 ≤ length t) × (getD t at 0 ≤ 5)
+      go (gotLeaf l d q x f b) = omega (arith, leaf-kind t at l rest (leaf-at t at l rest q))
+      go (gotGroup c n i es d q m x) = omega (arith, group-at t at c n i q .fits, group-at t at c n i q .kind, group-kind c)
+
   pub here-fits : at + 1 ≤ length t
-  here-fits = go whole
-    where
-      go : Got leafHead left k (drop at t) e k′ rest → at + 1 ≤ length t
-      go (gotLeaf l d q x f b) = leaf-kind t at l rest (leaf-at t at l rest q) .0
-      go (gotGroup c n i es d q m x) = omega (arith, group-at t at c n i q .fits)
+  here-fits = kind-here .0
 
-  pub by-leaf : (getD t at 0 ≡ 4 → ⊥) → (getD t at 0 ≡ 5 → ⊥) → ALeaf t at e rest
-  by-leaf n₄ n₅ = go whole
-    where
-      neither : (c : Bool) → getD t at 0 ≡ cond c 5 4 → ⊥
-      neither false q = n₄ q
-      neither true q = n₅ q
+  pub kind-most : getD t at 0 ≤ 5
+  kind-most = kind-here .1
 
+  pub by-leaf : getD t at 0 < 4 → ALeaf t at e rest
+  by-leaf low = go whole
+    where
       go : Got leafHead left k (drop at t) e k′ rest → ALeaf t at e rest
       go (gotLeaf l d q x f b) = record { l = l; is = x; reads = q }
-      go (gotGroup c n i es d q m x) = absurd (neither c (group-at t at c n i q .kind))
+      go (gotGroup c n i es d q m x) = absurd (omega (arith, group-at t at c n i q .kind, group-kind c))
+
+  pub leaf-there : getD t at 0 < 4 → LeafHere t at
+  leaf-there low =
+      let a = by-leaf low in
+      record { what = a .l; rest = rest; reads = a .reads }
+
+  pub bounds-match : (lower upper : ℤ) (next : ℕ) → getD t at 0 < 4 → BoundsHere t at lower upper next → (x : ℤ) → Word x → matches e x ≡ (leZ lower x && leZ x upper)
+  unfolding matchesBy
+  bounds-match lower upper next low h x w =
+      let a = by-leaf low in
+      let v = h .right (a .l) rest (a .reads) in
+      rw (a .is, v .0, v .1) (leaf-between (a .l) x w)
 
   pub by-group : (c : Bool) → getD t at 0 ≡ cond c 5 4 → AGroup t at left k c e k′ rest
   by-group c s = go whole
