@@ -1,7 +1,7 @@
 -- A leaf where it stands, by its kind: which one it is, its size, and its bounds. Assumes nothing.
 -- LeafIs t at l size <-> the leaf l stands at `at`, in so many bytes
 -- leaf-fits: it has a kind. single-is, range-is, any-is: which leaf it is. single-bounds, range-bounds, any-bounds: its bounds.
-use mathlib.Core.Path.{_≡_, refl, sym, ap, _∙_}
+use mathlib.Core.Path.{_≡_, refl, ap, _∙_}
 use mathlib.Core.List.{List}
 use Prim.Native.Nat.{ℕ, _+_, _≤_}
 use native.Mathlib.Omega.{arith}
@@ -11,7 +11,7 @@ use Rattle.integers.specs.Integer.{intAt}
 use Rattle.grammar.specs.Record.{leafHere, head}
 use Rattle.grammar.specs.Leaf.{Leaf, single, range, any, lowerOf, upperOf, leafHead}
 use Rattle.grammar.proofs.ReadApart.{LeafAt, singleAt, rangeAt, anyAt, leaf-at}
-use Rattle.elements.specs.Leaves.{LeafHere, BoundsHere, LeafSays}
+use Rattle.elements.specs.Leaves.{LeafHere, BoundsHere}
 
 pub record LeafIs (t : List ℕ) (at : ℕ) (l : Leaf) (size : ℕ) : Type 0 where
   pub fits : at + size ≤ length t
@@ -76,29 +76,3 @@ module _ (t : List ℕ) (at : ℕ) where
   pub any-bounds : LeafIs t at any 1 → BoundsHere t at (negsuc 2147483647) (pos 2147483647) (at + 1)
   unfolding lowerOf upperOf
   any-bounds i = bounds-of any 1 _ _ i refl refl
-
-module _ (t : List ℕ) (at : ℕ) (p : LeafHere t at) where
-  module _ {A : Type 0} (f : Leaf → A) (a : A) where
-    pub single-says : getD t at 0 ≡ 1 → a ≡ f (single (intAt t (at + 1))) → LeafSays f t at a (at + 5)
-    single-says q h = record { inside = single-is t at p q .fits; right = λ l rest r. go l rest (leaf-at t at l rest r) }
-      where
-        go : (l : Leaf) (rest : List ℕ) → LeafAt t at l rest → (a ≡ f l) × (drop (at + 5) t ≡ rest)
-        go l rest (singleAt k i e r) = (h ∙ sym (ap f e), sym r)
-        go l rest (rangeAt k i o e r) = absurd (omega arith)
-        go l rest (anyAt k i e r) = absurd (omega arith)
-
-    pub range-says : getD t at 0 ≡ 2 → a ≡ f (range (intAt t (at + 1)) (intAt t (at + 5))) → LeafSays f t at a (at + 9)
-    range-says q h = record { inside = range-is t at p q .fits; right = λ l rest r. go l rest (leaf-at t at l rest r) }
-      where
-        go : (l : Leaf) (rest : List ℕ) → LeafAt t at l rest → (a ≡ f l) × (drop (at + 9) t ≡ rest)
-        go l rest (singleAt k i e r) = absurd (omega arith)
-        go l rest (rangeAt k i o e r) = (h ∙ sym (ap f e), sym r)
-        go l rest (anyAt k i e r) = absurd (omega arith)
-
-    pub any-says : (getD t at 0 ≡ 1 → ⊥) → (getD t at 0 ≡ 2 → ⊥) → a ≡ f any → LeafSays f t at a (at + 1)
-    any-says n₁ n₂ h = record { inside = any-is t at p n₁ n₂ .fits; right = λ l rest r. go l rest (leaf-at t at l rest r) }
-      where
-        go : (l : Leaf) (rest : List ℕ) → LeafAt t at l rest → (a ≡ f l) × (drop (at + 1) t ≡ rest)
-        go l rest (singleAt k i e r) = absurd (n₁ k)
-        go l rest (rangeAt k i o e r) = absurd (n₂ k)
-        go l rest (anyAt k i e r) = (h ∙ sym (ap f e), sym r)

@@ -3,7 +3,7 @@
 -- Scans       == a scan step by step
 -- WholeInputs == the number for a whole input, from a scan of its front
 -- ElementByKind == an element template that was read where it stands
--- LeafByKind  == a leaf where it stands: its size, and what is said of it
+-- LeafByKind  == a leaf where it stands, by its kind: its size and its bounds
 -- Unique      == each promise allows one result only
 pub mod Records
 pub mod Scans

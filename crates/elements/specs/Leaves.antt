@@ -2,7 +2,6 @@
 -- ElementHere t at   <-> an element template at depth 1 stands at `at`, with all that it holds
 -- LeafHere t at      <-> a leaf stands at `at`
 -- BoundsHere t at lower upper next <-> for the leaf l that stands at `at`: its bounds are lower and upper, and `next` is the place after it
--- LeafSays f t at a next <-> for the leaf l that stands at `at`: a is f l, and `next` is the place after it
 -- Assumes nothing: these are definitions.
 use mathlib.Core.Path.{_≡_}
 use mathlib.Core.List.{List}
@@ -30,7 +29,3 @@ pub record LeafHere (t : List ℕ) (at : ℕ) : Type 0 where
 pub record BoundsHere (t : List ℕ) (at : ℕ) (lower upper : ℤ) (next : ℕ) : Type 0 where
   pub inside : next ≤ length t
   pub right : (l : Leaf) (rest : List ℕ) → head leafHead (drop at t) ≡ leafHere l rest → (lower ≡ lowerOf l) × (upper ≡ upperOf l) × (drop next t ≡ rest)
-
-pub record LeafSays {A : Type 0} (f : Leaf → A) (t : List ℕ) (at : ℕ) (a : A) (next : ℕ) : Type 0 where
-  pub inside : next ≤ length t
-  pub right : (l : Leaf) (rest : List ℕ) → head leafHead (drop at t) ≡ leafHere l rest → (a ≡ f l) × (drop next t ≡ rest)

@@ -1,7 +1,7 @@
 -- `normal::walk::any_of` and `set_of` meet their contracts. The loop's invariant: what is gathered holds what the members passed match, has
 -- two ranges and two edges at most for each leaf passed, and whatever the members to come add completes the whole (`Chain`). The measure is the depth left,
 -- twice, and one more for `any_of`, which calls `set_of` at the same depth; that of the loop is the members left. Assumes nothing.
-use mathlib.Core.Path.{_≡_, sym, ap, ap₂, _∙_, subst}
+use mathlib.Core.Path.{_≡_, refl, sym, ap, ap₂, _∙_, subst}
 use mathlib.Core.Bool.{Bool, true, false, cond}
 use mathlib.Core.List.{List, [], _∷_, _++_}
 use mathlib.Core.Logic.{⊎-elim}
@@ -21,14 +21,14 @@ use Rattle.ranges.specs.declared.Ranges.{Ranges}
 use Rattle.ranges.specs.Spans.{Span, span, holds, Ascending, edges}
 use Rattle.elements.specs.Leaves.{LeafHere}
 use Rattle.normal.specs.Contract.{Here, Members, HereSet, AnySet}
-use Rattle.normal.proofs.Walks.{here-fits, group-fits, group-members, leaf-there, leaf-here-set, leaf-set-as, list-here-set, complement-here-set, Chain, chain-start, chain-here, chain-step, chain-ascending, chain-end, chain-small, chain-short, here-small, chain-at}
+use Rattle.normal.proofs.Walks.{here-fits, group-fits, group-members, leaf-kind, leaf-there, leaf-here-set, list-here-set, complement-here-set, Chain, chain-start, chain-here, chain-step, chain-ascending, chain-end, chain-small, chain-short, here-small, chain-at}
 use Rattle.normal.proofs.walk.any_of.Reads as any-of
 use Rattle.normal.proofs.walk.any_of.Kinds as any-of-kinds
 use Rattle.normal.proofs.walk.+any_of+set_of.Lts-any_of as any-of-lts
 use Rattle.normal.proofs.walk.set_of.Reads as set-of
 use Rattle.normal.proofs.walk.set_of.Kinds as set-of-kinds
 use Rattle.normal.proofs.walk.+any_of+set_of.Lts-set_of as set-of-lts
-use Rattle.normal.proofs.walk.leaf_at.Reads as leaf-at-reads
+use Rattle.elements.proofs.leaf.bounds_at.Reads as bounds-at-reads
 use Rattle.ranges.proofs.one.Reads as one-reads
 use Rattle.ranges.proofs.empty.Reads as empty-reads
 use Rattle.ranges.proofs.gaps.Reads as gaps-reads
@@ -56,10 +56,10 @@ abbrev set-of-below : ℕ → In 1 set-of-kinds.ps
 set-of-below t = and 1 set-of-kinds.ps (falls 1 set-of-kinds.ps _<_ μ-set-of t) set-of.Pre
 
 abbrev any-of-calls : ℕ → any-of-lts.Claims
-any-of-calls t = (empty-reads.Asked, empty-reads.Learnt, leaf-at-reads.Asked, leaf-at-reads.Learnt, set-of-below t, set-of.Post, append-reads.Asked, append-reads.Learnt, swept-reads.Asked, swept-reads.Learnt)
+any-of-calls t = (empty-reads.Asked, empty-reads.Learnt, bounds-at-reads.Asked, bounds-at-reads.Learnt, set-of-below t, set-of.Post, append-reads.Asked, append-reads.Learnt, swept-reads.Asked, swept-reads.Learnt)
 
 abbrev set-of-calls : ℕ → set-of-lts.Claims
-set-of-calls t = (any-of-below t, any-of.Post, gaps-reads.Asked, gaps-reads.Learnt, leaf-at-reads.Asked, leaf-at-reads.Learnt, one-reads.Asked, one-reads.Learnt)
+set-of-calls t = (any-of-below t, any-of.Post, gaps-reads.Asked, gaps-reads.Learnt, bounds-at-reads.Asked, bounds-at-reads.Learnt, one-reads.Asked, one-reads.Learnt)
 
 abbrev any-of-Inv-loop : any-of-lts.InvT-loop
 any-of-Inv-loop t at n left s₀ p₀ m₀ s p m = Chain t at n left (spans s) p m × (s .n ≡ length (spans s)) × (length (s .lo) ≡ 130) × (length (s .hi) ≡ 130)
@@ -91,20 +91,19 @@ module _ (t : ℕ) (c : any-of-lts.In-loop (any-of-calls t) (any-of-at t) any-of
   here = chain-here _ _ _ _ (spans L) _ _ (c .loop-test .taken) (c .before .loop .inv .0)
 
 -- a leaf more
-module _ (t : ℕ) (c : any-of-lts.After-leaf-at (any-of-calls t) (any-of-at t) any-of.Post any-of-Inv-loop any-of-μ-loop) where
+module _ (t : ℕ) (c : any-of-lts.After-bounds-at (any-of-calls t) (any-of-at t) any-of.Post any-of-Inv-loop any-of-μ-loop) where
   abbrev leaf-turn : any-of-lts.In-loop (any-of-calls t) (any-of-at t) any-of.Post any-of-Inv-loop any-of-μ-loop
   leaf-turn = c .before .before .before
 
   abbrev one-range : List Span
-  one-range = span (c .leaf-at .result .lower) (c .leaf-at .result .upper) ∷ []
+  one-range = span (c .bounds-at .result .lower) (c .bounds-at .result .upper) ∷ []
 
-  leaf-found : Ascending one-range × HereSet (all t leaf-turn) (P t leaf-turn) (called t leaf-turn .args .left) (holds one-range) (edges one-range) (c .leaf-at .result .next)
+  leaf-found : Ascending one-range × HereSet (all t leaf-turn) (P t leaf-turn) (called t leaf-turn .args .left) (holds one-range) (edges one-range) (c .bounds-at .result .next)
   leaf-found =
-      let n₄ : getD (all t leaf-turn) (P t leaf-turn) 0 ≡ 4 → ⊥ = λ e. omega (arith, c .before .if1 .taken) in
-      let n₅ : getD (all t leaf-turn) (P t leaf-turn) 0 ≡ 5 → ⊥ = λ e. omega (arith, c .before .if1 .taken) in
-      leaf-here-set _ _ _ one-range _ (leaf-there _ _ _ (here t leaf-turn) n₄ n₅) n₄ n₅ (c .leaf-at .ensures)
+      let low = c .before .if1 .taken in
+      leaf-here-set _ _ _ one-range _ _ _ refl (leaf-there _ _ _ (here t leaf-turn) low) low (c .bounds-at .ensures)
 
-  leaf-more : Chain (all t leaf-turn) (called t leaf-turn .args .at) (called t leaf-turn .args .n) (called t leaf-turn .args .left) (spans (L t leaf-turn) ++ one-range) (c .leaf-at .result .next) (leaf-turn .before .loop .more - 1)
+  leaf-more : Chain (all t leaf-turn) (called t leaf-turn .args .at) (called t leaf-turn .args .n) (called t leaf-turn .args .left) (spans (L t leaf-turn) ++ one-range) (c .bounds-at .result .next) (leaf-turn .before .loop .more - 1)
   leaf-more = chain-step _ _ _ _ (spans (L t leaf-turn)) _ _ (leaf-turn .loop-test .taken) (leaf-turn .before .loop .inv .0) one-range _ (leaf-found .0) (leaf-found .1)
 
   leaf-room : L t leaf-turn .n < 128
@@ -132,8 +131,8 @@ module _ (t : ℕ) (c : any-of-lts.After-set-of (any-of-calls t) (any-of-at t) a
 any-of-shared-slice-read-kind : (t : ℕ) → any-of-lts.Need-shared-slice-read-kind (any-of-calls t) (any-of-at t) any-of.Post any-of-Inv-loop any-of-μ-loop
 any-of-shared-slice-read-kind t c = omega (arith, here-fits _ _ _ (here t (c .before)))
 
-any-of-leaf-at-requires : (t : ℕ) → any-of-lts.Need-leaf-at-requires (any-of-calls t) (any-of-at t) any-of.Post any-of-Inv-loop any-of-μ-loop
-any-of-leaf-at-requires t c κs = leaf-there _ _ _ (here t (c .before .before)) (λ e. omega (arith, c .if1 .taken)) (λ e. omega (arith, c .if1 .taken))
+any-of-bounds-at-requires : (t : ℕ) → any-of-lts.Need-bounds-at-requires (any-of-calls t) (any-of-at t) any-of.Post any-of-Inv-loop any-of-μ-loop
+any-of-bounds-at-requires t c κs = leaf-there _ _ _ (here t (c .before .before)) (c .if1 .taken)
 
 any-of-mul-a : (t : ℕ) → any-of-lts.Need-mul-a (any-of-calls t) (any-of-at t) any-of.Post any-of-Inv-loop any-of-μ-loop
 any-of-mul-a t c = omega (arith, leaf-room t (c .before .before))
@@ -166,7 +165,7 @@ any-of-loop-again : (t : ℕ) → any-of-lts.Need-loop-again (any-of-calls t) (a
 any-of-loop-again t c =
     ⊎-elim
     (λ w.
-    let l : any-of-lts.After-leaf-at (any-of-calls t) (any-of-at t) any-of.Post any-of-Inv-loop any-of-μ-loop = record { before = record { before = c .before; if1 = w .0 }; leaf-at = w .1 } in
+    let l : any-of-lts.After-bounds-at (any-of-calls t) (any-of-at t) any-of.Post any-of-Inv-loop any-of-μ-loop = record { before = record { before = c .before; if1 = w .0 }; bounds-at = w .1 } in
     let g = L t (leaf-turn t l) in
     let i = leaf-turn t l .before .loop .inv in
     let low = w .1 .result .lower in
@@ -235,8 +234,11 @@ module _ (t : ℕ) (s : set-of-lts.Start (set-of-calls t) (set-of-at t) set-of.P
   members : (c : Bool) → getD bytes at 0 ≡ cond c 5 4 → (2 * (left - 1) + 1 < t) × Members bytes (at + 2) (getD bytes (at + 1) 0) (left - 1)
   members c e = (omega (arith, members-fit c e, s .pre .0), group-members bytes at left (s .pre .1) c e)
 
-  a-leaf : (getD bytes at 0 ≡ 4 → ⊥) → (getD bytes at 0 ≡ 5 → ⊥) → LeafHere bytes at
-  a-leaf n₄ n₅ = leaf-there bytes at left (s .pre .1) n₄ n₅
+  low : (getD bytes at 0 ≡ 4 → ⊥) → (getD bytes at 0 ≡ 5 → ⊥) → getD bytes at 0 < 4
+  low n₄ n₅ = leaf-kind bytes at left (s .pre .1) n₄ n₅
+
+  a-leaf : getD bytes at 0 < 4 → LeafHere bytes at
+  a-leaf = leaf-there bytes at left (s .pre .1)
 
 set-of-shared-slice-read-kind : (t : ℕ) → set-of-lts.Need-shared-slice-read-kind (set-of-calls t) (set-of-at t) set-of.Post
 set-of-shared-slice-read-kind t c = omega (arith, fits t (c .before .before))
@@ -296,8 +298,8 @@ set-of-returns-2 t c =
     let small : length rs ≤ 65 = here-small (bytes t s) (at t s) (left t s) rs _ (s .pre .1) (found .0) (found .1) in
     record { few = omega (arith, shown .count, ap length (shown .ranges)); ascending = found .0; right = found .1 }
 
-set-of-leaf-at-requires : (t : ℕ) → set-of-lts.Need-leaf-at-requires (set-of-calls t) (set-of-at t) set-of.Post
-set-of-leaf-at-requires t c κs = a-leaf t (c .before .before .before .before) (c .before .if1 .left) (c .if2 .left)
+set-of-bounds-at-requires : (t : ℕ) → set-of-lts.Need-bounds-at-requires (set-of-calls t) (set-of-at t) set-of.Post
+set-of-bounds-at-requires t c κs = let s = c .before .before .before .before in a-leaf t s (low t s (c .before .if1 .left) (c .if2 .left))
 
 set-of-one-requires : (t : ℕ) → set-of-lts.Need-one-requires (set-of-calls t) (set-of-at t) set-of.Post
 set-of-one-requires t c κs = tt
@@ -306,13 +308,12 @@ set-of-returns-3 : (t : ℕ) → set-of-lts.Need-returns-3 (set-of-calls t) (set
 set-of-returns-3 t c =
     let e = c .before .before .before .before in
     let s = e .before .before .before .before in
-    let n₄ = e .before .if1 .left in
-    let n₅ = e .if2 .left in
-    let l = c .before .before .before .leaf-at .result in
+    let kind = low t s (e .before .if1 .left) (e .if2 .left) in
+    let l = c .before .before .before .bounds-at .result in
     let wa : Word (l .lower) = search needs in
     let wb : Word (l .upper) = search needs in
     let is : spans (c .one .result) ≡ span (l .lower) (l .upper) ∷ [] = c .one .ensures .ranges ∙ rw (again-same (l .lower) wa, again-same (l .upper) wb) in
-    let found = leaf-here-set (bytes t s) (at t s) (left t s) (spans (c .one .result)) _ (a-leaf t s n₄ n₅) n₄ n₅ (leaf-set-as _ _ _ _ _ is (c .before .before .before .leaf-at .ensures)) in
+    let found = leaf-here-set (bytes t s) (at t s) (left t s) (spans (c .one .result)) (l .lower) (l .upper) _ is (a-leaf t s kind) kind (c .before .before .before .bounds-at .ensures) in
     record { few = omega (arith, c .one .ensures .count); ascending = found .0; right = found .1 }
 
 pub +any-of+set-of-spec : {M : Type 1} → statement M
@@ -324,7 +325,7 @@ pub +any-of+set-of-spec : {M : Type 1} → statement M
     (any-of-empty-requires t)
     (any-of-loop-holds t)
     (any-of-shared-slice-read-kind t)
-    (any-of-leaf-at-requires t)
+    (any-of-bounds-at-requires t)
     (any-of-mul-a t)
     (any-of-element-set-from-a t)
     (any-of-mul-b t)
@@ -356,6 +357,6 @@ pub +any-of+set-of-spec : {M : Type 1} → statement M
     (set-of-any-of-requires-2 t)
     (set-of-gaps-requires t)
     (set-of-returns-2 t)
-    (set-of-leaf-at-requires t)
+    (set-of-bounds-at-requires t)
     (set-of-one-requires t)
     (set-of-returns-3 t)
