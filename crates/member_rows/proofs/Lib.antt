@@ -1,9 +1,7 @@
 -- What the proofs of several functions use.
 -- Agreeing == which member matches which element, however it is held
 -- RowByRow == one row changed at a time, and the members one by one
--- PlanFromLayout == the plan of any bytes, from what the scan noted
 -- Unique == each promise allows one result only
 pub mod Agreeing
 pub mod RowByRow
-pub mod PlanFromLayout
 pub mod Unique

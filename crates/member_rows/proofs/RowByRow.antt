@@ -6,20 +6,23 @@ use mathlib.Core.List.{List, [], _∷_}
 use Prim.Native.Nat.{ℕ, zero, suc, _+_, _≤_, _<_}
 use native.Mathlib.Omega.{arith}
 use lib.ListN.{length, getD, take, set, replicate, length-set}
-use lib.IntN.{ℤ, pos}
+use borrow.Author.Tests.{eqb-true}
+use lib.Dec.{eqb}
+use lib.IntN.{ℤ, pos, negsuc}
 use lib.Signed.{leZ}
-use lib.Seq.{getD-set-same, getD-set-other, set-getD, getD-take, length-take-le}
+use lib.Seq.{getD-set-same, getD-set-other, set-getD, getD-take}
 use mir.Syntax.{w32}
 use mir.Val.{toZ, ofZ, SFits}
 use mir.Facts.{toZ-ofZ}
 use Rattle.integers.specs.Integer.{Word}
-use Rattle.facts.proofs.Cases.{below, same?}
+use Rattle.facts.proofs.Cases.{below, same?, and-left, and-right}
 use Rattle.grammar.specs.Element.{Elem}
 use Rattle.grammar.specs.Leaf.{Leaf}
 use Rattle.grammar.specs.Blocks.{StandsAt, Standing}
 use Rattle.grammar.specs.Matches.{matches}
 use Rattle.element_match.specs.Contract.{ElementAt, HitAt}
-use Rattle.element_match.proofs.LeafBounds.{Between}
+use Rattle.elements.specs.Leaves.{BoundsHere}
+use Rattle.elements.proofs.ElementByKind.{bounds-match}
 use Rattle.masks.specs.Masks.{bit, Plus}
 use Rattle.rows.specs.Rows.{may}
 use Rattle.rows.proofs.Rows.{row-may, zeros-may}
@@ -89,6 +92,15 @@ marked-same before m test test′ n rows same g = record {
 pub read-back : (x y : ℤ) → Word x → x ≡ y → toZ w32 (ofZ w32 x) ≡ y
 read-back x y word e = toZ-ofZ (record { sfits = word }) ∙ e
 
+-- a test of equal bits, as the machine makes it: the integers are equal
+same-bits : (z : ℤ) (b : ℕ) → Word z → eqb (ofZ w32 z) b ≡ true → toZ w32 b ≡ z
+same-bits z b word e = ap (toZ w32) (sym (eqb-true (ofZ w32 z) b e)) ∙ read-back z z word refl
+
+-- the bounds of every 32-bit integer
+pub widest-bounds : (lower upper : ℤ) → Word lower → Word upper → (eqb (ofZ w32 lower) 2147483648 && eqb (ofZ w32 upper) 2147483647) ≡ true
+    → (negsuc 2147483647 ≡ lower) × (pos 2147483647 ≡ upper)
+widest-bounds lower upper l u e = (same-bits lower 2147483648 l (and-left _ _ e), same-bits upper 2147483647 u (and-right (eqb (ofZ w32 lower) 2147483648) _ e))
+
 module _ (before : List ℕ) (m : ℕ) (xs : List ℤ) (lower upper : ℤ) where
   pub within-start : length before ≡ 32 → MarkedWithin before m xs lower upper 0 before
   within-start size = record { words = λ e l. absurd (omega arith); marked = marked-start before m _ size }
@@ -132,11 +144,13 @@ module _ (before : List ℕ) (m : ℕ) (t : List ℕ) (at : ℕ) (xs : List ℤ)
     pub by-miss : hit ≡ false → MarkedBy before m t at xs (n + 1) rows
     by-miss b = record { marked = λ who s. marked-miss before m _ n rows (g .marked who s) (match-told who s ∙ b) }
 
-  -- a leaf matches what lies between its bounds a and b
-  pub leaf-marked : (n : ℕ) (rows : List ℕ) (lower upper a b : ℤ) → MarkedWithin before m xs lower upper n rows → Between t at a b → lower ≡ a → upper ≡ b
-      → MarkedBy before m t at xs n rows
-  leaf-marked n rows lower upper a b g w p q = record {
-    marked = λ who s. marked-same before m _ _ n rows (λ e l. rw (p, q) (sym (w who (s .leaves) (s .rest) (s .reads) (getD xs e (pos 0)) (g .words e l)))) (g .marked);
+  -- a leaf matches what lies between its bounds, under whichever names they come
+  pub leaf-marked : (n : ℕ) (rows : List ℕ) (lower upper a b : ℤ) (next : ℕ) → MarkedWithin before m xs a b n rows → getD t at 0 < 4 → BoundsHere t at lower upper next
+      → a ≡ lower → b ≡ upper → MarkedBy before m t at xs n rows
+  leaf-marked n rows lower upper a b next g low h p q = record {
+    marked = λ who s. marked-same before m _ _ n rows
+        (λ e l. rw (p, q) (sym (bounds-match t at 8 0 who (s .leaves) (s .rest) (s .reads) lower upper next low h (getD xs e (pos 0)) (g .words e l))))
+        (g .marked);
   }
 
 -- ---- the members at their places
@@ -175,9 +189,10 @@ pub record RowsTo (es : List (Elem Leaf)) (xs : List ℤ) (k : ℕ) (rows : List
 pub rows-start : (es : List (Elem Leaf)) (xs : List ℤ) → RowsTo es xs 0 (replicate 32 0)
 rows-start es xs = record { size = refl; right = λ m e l. absurd (omega arith); noMember = λ m e l. zeros-may m e; noElement = λ m e l. zeros-may m e }
 
-module _ (t places : List ℕ) (xs : List ℤ) (members : ℕ) (size : length places ≡ 32) (w : MembersAt t places members) where
+module _ (t places : List ℕ) (xs : List ℤ) (members : ℕ) (w : MembersAt t places members) where
+  -- whoever stands there, there are so many of them
   places-count : (es : List (Elem Leaf)) → Standing t es (take members places) → length es ≡ members
-  places-count es s = standing-length t es (take members places) s ∙ length-take-le members places (omega (arith, w .few))
+  places-count es s = standing-length t es (take members places) s ∙ sym (standing-length t (w .who) (take members places) (w .stands)) ∙ sym (w .size)
 
   -- the member with the number m stands at its place
   member-at : (es : List (Elem Leaf)) (m : ℕ) → Standing t es (take members places) → m < members → Member t es places m

@@ -1,5 +1,5 @@
 -- What is known of the places of members, and what a member adds to the rows. A place is an index into the bytes t.
--- MembersAt t places members <-> an element template stands at each of the first `members` places
+-- MembersAt t places members <-> there are so many members, 32 at most, and an element template stands at each of the first `members` places
 -- Marked before m test n after <-> the rows `after` are `before`, and member m stands besides in the row of each element below n for which
 --   the test holds
 -- MarkedWithin before m xs lower upper n after <-> so for the elements of xs between the bounds, ends included; each is a 32-bit integer
@@ -22,6 +22,7 @@ use Rattle.rows.specs.Rows.{may}
 pub record MembersAt (t places : List ℕ) (members : ℕ) : Type 0 where
   pub few : members ≤ 32
   pub who : List (Elem Leaf)
+  pub size : members ≡ length who
   pub stands : Standing t who (take members places)
 
 pub record Marked (before : List ℕ) (m : ℕ) (test : ℕ → Bool) (n : ℕ) (after : List ℕ) : Type 0 where
