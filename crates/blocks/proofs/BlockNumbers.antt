@@ -1,14 +1,13 @@
 -- Blocks as numbers: the number of a block says that block, and lists of numbers are lists of blocks, place by place. Assumes nothing.
 -- blockIn-numberOf: a block of bytes is read back from its number. blocksIn-*: how many blocks numbers say, which, the first of them, and those of two lists.
-use mathlib.Core.Path.{_≡_, refl, ap, ap₂}
+use mathlib.Core.Path.{_≡_, refl, ap}
 use mathlib.Core.List.{List, [], _∷_, _++_}
 use Prim.Native.Nat.{ℕ, zero, suc, _<_}
 use native.Mathlib.Omega.{arith}
 use lib.ListN.{length, getD, take}
-use Rattle.integers.specs.Integer.{joined}
 use Rattle.integers.proofs.FourBytes.{bytes-joined}
 use Rattle.blocks.specs.declared.Block.{Block}
-use Rattle.blocks.specs.Numbers.{block, numberOf, blockIn, blocksIn}
+use Rattle.blocks.specs.Numbers.{numberOf, blockIn, blocksIn}
 
 pub blockIn-numberOf : (b : Block) → b .first < 256 → b .k < 256 → b .min < 256 → b .max < 256 → blockIn (numberOf b) ≡ b
 unfolding blockIn numberOf

@@ -1,15 +1,14 @@
 -- Lists cut into pieces. Assumes nothing.
--- cuts-length: a cut has a byte for each element. cuts-snoc, cuts-unsnoc: the last block's piece ends a cut. inside-at, cut-inside: the members of a block are below 32.
+-- cuts-length: a cut has a byte for each element. cuts-snoc, cuts-unsnoc: the last block's piece ends a cut.
 use mathlib.Core.Path.{_≡_, refl, sym, ap, _∙_, subst}
 use mathlib.Core.Bool.{Bool}
 use mathlib.Core.List.{List, [], _∷_, _++_, append-assoc, append-nil}
-use Prim.Native.Nat.{ℕ, _+_, _-_, _≤_, _<_, suc, zero}
+use Prim.Native.Nat.{ℕ, _-_, _≤_}
 use native.Mathlib.Omega.{arith}
-use lib.ListN.{length, take, length-append, length-take, getD}
-use lib.Seq.{getD-take}
+use lib.ListN.{length, length-append}
 use Rattle.byte_order.specs.ByteOrder.{Joins}
 use Rattle.blocks.specs.declared.Block.{Block}
-use Rattle.blocks.specs.Pieces.{Takes, Cuts, Inside}
+use Rattle.blocks.specs.Pieces.{Takes, Cuts}
 
 -- what a piece and the rest give together
 record Sized (from to : ℕ) (w : List ℕ) : Type 0 where
@@ -108,14 +107,3 @@ cuts-unsnoc may (a ∷ bs) b from to w c =
         onRight = k .onRight;
       };
     }
-
-pub inside-at : (d : Block) (bs : List Block) (j : ℕ) → j < length bs → Inside bs → getD bs j d .first + getD bs j d .k ≤ 32
-unfolding Inside
-inside-at d [] j l h = absurd (omega arith)
-inside-at d (b ∷ bs) zero l h = h .0
-inside-at d (b ∷ bs) (suc j) l h = inside-at d bs j (omega arith) (h .1)
-
-pub cut-inside : (blocks : List Block) (count : ℕ) → length blocks ≡ 32 → count ≤ 32 → (d : Block) (i : ℕ) → i < count → Inside (take count blocks) → getD blocks i d .first + getD blocks i d .k ≤ 32
-cut-inside blocks count size few d i l h =
-    let x = length-take count blocks in
-    subst (λ (b : Block). b .first + b .k ≤ 32) (getD-take count blocks i d l) (inside-at d (take count blocks) i (omega arith) h)

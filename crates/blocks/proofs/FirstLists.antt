@@ -12,7 +12,7 @@ use lib.Seq.{getD-take, ext-getD}
 use Rattle.byte_order.specs.ByteOrder.{earlier}
 use Rattle.blocks.specs.Pieces.{Best, Passing}
 use Rattle.facts.proofs.Cases.{below, holds?, clash, not-so}
-use Rattle.byte_order.proofs.ByteOrder.{first-unique}
+use Rattle.byte_order.proofs.ByteOrder.{first-unique, first-same}
 
 pub passing-true : {P : Type 0} → P → Passing P true
 passing-true p = record { passed = λ _. p; failed = λ f. absurd (clash refl f) }
@@ -22,6 +22,16 @@ passing-false n = record { passed = λ t. absurd (clash t refl); failed = λ _. 
 
 pub passing-same : {P Q : Type 0} {r : Bool} → (P → Q) → (Q → P) → Passing P r → Passing Q r
 passing-same there back h = record { passed = λ t. there (h .passed t); failed = λ f q. h .failed f (back q) }
+
+-- lists of one kind are those of the other
+pub best-same : {P Q : List ℕ → Type 0} {n : ℕ} {found : Bool} {w : List ℕ} → ((v : List ℕ) → P v → Q v) → ((v : List ℕ) → Q v → P v) → Best P n found w → Best Q n found w
+best-same there back h = record {
+  best = λ f. first-same there back (h .best f);
+  none = λ f v q. h .none f v (back v q);
+  size = h .size;
+  outside = h .outside;
+  blank = h .blank;
+}
 
 -- where there is a list, one is found
 pub best-complete : {P : List ℕ → Type 0} {n : ℕ} {found : Bool} {w : List ℕ} (v : List ℕ) → Best P n found w → P v → found ≡ true

@@ -4,7 +4,7 @@
 use mathlib.Core.Path.{_≡_, refl, sym, ap, _∙_, subst}
 use mathlib.Core.Bool.{Bool}
 use mathlib.Core.List.{List, [], _∷_, _++_}
-use Prim.Native.Nat.{ℕ, zero, suc, _+_, _-_, _≤_, _<_}
+use Prim.Native.Nat.{ℕ, zero, suc, _+_, _≤_, _<_}
 use native.Mathlib.Omega.{arith}
 use lib.ListN.{length, getD, take, drop}
 use Rattle.blocks.specs.declared.Block.{Block}
@@ -38,12 +38,15 @@ lent-more zero (v ∷ vs) = refl
 lent-more (suc n) [] = ap (λ (bs : List Block). blockIn 0 ∷ bs) (lent-more n [])
 lent-more (suc n) (v ∷ vs) = ap (λ (bs : List Block). blockIn v ∷ bs) (lent-more n vs)
 
-pub lent-inside : (n : ℕ) (vs : List ℕ) (i : ℕ) → i < n → Inside (blocksIn (take n vs)) → blockIn (getD vs i 0) .first + blockIn (getD vs i 0) .k ≤ 32
+inside-here : (n : ℕ) (vs : List ℕ) (i : ℕ) → i < n → Inside (blocksIn (take n vs)) → blockIn (getD vs i 0) .first + blockIn (getD vs i 0) .k ≤ 32
 unfolding blocksIn blockIn Inside
-lent-inside zero vs i l h = absurd (omega arith)
-lent-inside (suc n) [] i l h = omega arith
-lent-inside (suc n) (v ∷ vs) zero l h = h .0
-lent-inside (suc n) (v ∷ vs) (suc i) l h = lent-inside n vs i (omega arith) (h .1)
+inside-here zero vs i l h = absurd (omega arith)
+inside-here (suc n) [] i l h = omega arith
+inside-here (suc n) (v ∷ vs) zero l h = h .0
+inside-here (suc n) (v ∷ vs) (suc i) l h = inside-here n vs i (omega arith) (h .1)
+
+pub lent-inside : (n : ℕ) (vs : List ℕ) (i : ℕ) {b : Block} → b ≡ blockIn (getD vs i 0) → i < n → Inside (blocksIn (take n vs)) → b .first + b .k ≤ 32
+lent-inside n vs i is l h = subst (λ (b : Block). b .first + b .k ≤ 32) (sym is) (inside-here n vs i l h)
 
 -- ---- the block of 0 takes no element
 empty : (w : List ℕ) → length w ≡ 0 → w ≡ []

@@ -3,11 +3,10 @@ use mathlib.Core.Path.{_≡_, refl, sym, ap, ap₂, _∙_, subst}
 use mathlib.Core.Logic.{_⊎_, inl, inr, ⊎-elim}
 use mathlib.Core.Bool.{Bool, true, false}
 use mathlib.Core.List.{List, [], _∷_, _++_}
-use Prim.Native.Nat.{ℕ, zero, suc, _+_, _-_, _≤_, _<_, min, suc-le-suc}
-use native.Mathlib.Numerals.{add-one}
+use Prim.Native.Nat.{ℕ, zero, suc, _+_, _≤_, _<_, min, suc-le-suc}
 use native.Mathlib.Omega.{arith}
-use lib.ListN.{length, getD, take, drop, replicate, drop-of-length-le, length-replicate, getD-replicate, length-take}
-use lib.Seq.{slice, slice-empty, drop-cons, getD-take}
+use lib.ListN.{length, getD, replicate, length-replicate, getD-replicate}
+use lib.Seq.{slice, slice-empty}
 use Rattle.byte_order.specs.ByteOrder.{earlier, First, Joins}
 use Rattle.facts.specs.Counting.{between}
 use Rattle.blocks.specs.Assignment.{Assigns}
@@ -19,7 +18,7 @@ use Rattle.blocks.specs.declared.Block.{Block}
 use Rattle.suffixes.specs.declared.Suffix.{Suffix}
 use Rattle.blocks.specs.Pieces.{Takes, Cuts, Cutting}
 use Rattle.suffixes.specs.Suffixes.{Given, nothing, entry, Written, Kept, alone}
-use Rattle.cut_table.specs.Table.{shortest, longest, together, Tabled, Prepended, CutBefore}
+use Rattle.cut_table.specs.Table.{shortest, longest, Tabled, Prepended, CutBefore}
 use Rattle.suffixes.proofs.TableEntries.{blank-entry}
 use Rattle.suffixes.proofs.Joined.{given-none, given-same, kept-union, joined-spare, spare-bytes}
 use Rattle.blocks.proofs.Cutting.{cuts-order}
@@ -320,40 +319,7 @@ prepended-up q p = record {
       record { size = h .size; at = λ j f l k. h .at j f (omega arith) k };
 }
 
--- ---- all blocks, from the last to the first
-together-next : (f : Block → ℕ) (d : Block) (bs : List Block) (i : ℕ) → i < length bs → together f (take (suc i) bs) ≡ together f (take i bs) + f (getD bs i d)
-unfolding together
-together-next f d [] i l = absurd (omega arith)
-together-next f d (b ∷ bs) zero l = omega arith
-together-next f d (b ∷ bs) (suc i) l = let ih = together-next f d bs i (omega arith) in omega arith
-
-pub together-more : (f : Block → ℕ) (d : Block) (bs : List Block) (i j : ℕ) → j ≡ i + 1 → i < length bs → together f (take j bs) ≡ together f (take i bs) + f (getD bs i d)
-together-more f d bs i j q l = ap (λ (x : ℕ). together f (take x bs)) (q ∙ add-one i) ∙ together-next f d bs i l
-
-pub together-none : (f : Block → ℕ) (bs : List Block) → together f (take 0 bs) ≡ 0
-unfolding together
-together-none f [] = refl
-together-none f (b ∷ bs) = refl
-
-module _ (may : ℕ → ℕ → Bool) (blocks : List Block) (count n : ℕ) (size : length blocks ≡ 32) (few : count ≤ 32) where
-  long : length (take count blocks) ≡ count
-  long = let x = length-take count blocks in omega arith
-
-  pub cut-start : {low high : ℕ} {t : List ℕ} → Tabled may [] n low high t → Tabled may (drop count (take count blocks)) n low high t
-  cut-start {low} {high} {t} g =
-      let x = long in
-      subst (λ (bs : List Block). Tabled may bs n low high t) (sym (drop-of-length-le (take count blocks) {i = count} (omega arith))) g
-
-  pub cut-step : (d : Block) (j i : ℕ) {low high low′ high′ : ℕ} {t u : List ℕ} → j ≡ suc i → j ≤ count
-      → low ≡ low′ + shortest (getD blocks i d) → high ≡ high′ + longest (getD blocks i d) → Prepended may (getD blocks i d) n low′ high′ t u
-      → Tabled may (drop j (take count blocks)) n low high t → Tabled may (drop i (take count blocks)) n low′ high′ u
-  cut-step d j i {low} {high} {low′} {high′} {t} {u} q l ql qh more g =
-      let x = long in
-      let e : drop i (take count blocks) ≡ getD blocks i d ∷ drop j (take count blocks) =
-      drop-cons (take count blocks) i d (omega arith) ∙ rw (getD-take count blocks i d (omega arith), q) in
-      let h : Tabled may (drop j (take count blocks)) n (low′ + shortest (getD blocks i d)) (high′ + longest (getD blocks i d)) t = rw (ql, qh) at g in
-      subst (λ (bs : List Block). Tabled may bs n low′ high′ u) (sym e) (more .more (drop j (take count blocks)) h)
-
+-- ---- all blocks
 pub cut-end : (may : ℕ → ℕ → Bool) (bs : List Block) {n : ℕ} {s : Suffix} → Given (Cuts may bs 0 n) 0 n s → Cutting may bs n (s .there) (s .w)
 cut-end may bs {n} {s} g = record {
   best = g .best;

@@ -1,2 +1,4 @@
--- Unique == the promise allows one result only
+-- LentTables == the table of the blocks that are read of lent numbers
+-- Unique     == the promise allows one result only
+mod LentTables
 pub mod Unique

@@ -14,6 +14,6 @@ use Rattle.cuts.proofs.first_cut.Kinds as cut-kinds
 abbrev made : Bool → List ℕ → Found
 made found w = record { found = found; w = w }
 
-pub first-cut-unique : (κs : Lfts 1) (a : Dens κs cut-kinds.ps) (r r' : resT cut-kinds.r κs .Denot) (s s' : AtExit (endedOf 1 cut-kinds.ps cut-kinds.r) κs)
+pub first-cut-unique : (κs : Lfts 2) (a : Dens κs cut-kinds.ps) (r r' : resT cut-kinds.r κs .Denot) (s s' : AtExit (endedOf 2 cut-kinds.ps cut-kinds.r) κs)
     → cut-reads.Post κs a r s → cut-reads.Post κs a r' s' → r ≡ r'
 first-cut-unique κs a r r' s s' p q = let u = best-unique p q in ap₂ made (u .0) (u .1)

@@ -7,15 +7,17 @@ use Prim.Native.Nat.{ℕ, _+_, _≤_, _<_}
 use native.Mathlib.Numerals.{add-one}
 use native.Mathlib.Omega.{arith}
 use lib.ListN.{length, getD, take, drop, take-append-drop}
-use lib.Seq.{slice, take-suc, take-take, take-at, drop-at, take-length}
+use lib.Seq.{slice, take-take, take-at, drop-at, take-length}
 use Rattle.masks.specs.Masks.{bit, Plus}
 use Rattle.facts.proofs.Cases.{same?, holds?, clash}
 use Rattle.masks.proofs.Masks.{bit-none}
 use Rattle.blocks.specs.declared.Block.{Block}
+use Rattle.blocks.specs.Numbers.{blockIn, blocksIn}
 use Rattle.blocks.specs.Pieces.{Takes, Cuts, Passing}
 use Rattle.judging.specs.Reach.{Reached, Ends}
-use Rattle.blocks.proofs.FirstLists.{passing-true, passing-false}
+use Rattle.blocks.proofs.FirstLists.{passing-true, passing-false, passing-same}
 use Rattle.blocks.proofs.Cutting.{cuts-length, cuts-snoc, Ended, cuts-unsnoc}
+use Rattle.blocks.proofs.LentBlocks.{lent, lent-more, cuts-lent, lent-cuts}
 
 -- ---- no blocks
 none-start : (may : ℕ → ℕ → Bool) (w : List ℕ) → Passing (Cuts may [] 0 0 (take 0 w)) true
@@ -133,12 +135,17 @@ module _ {may : ℕ → ℕ → Bool} {bs : List Block} {b : Block} {reach : ℕ
   }
 
 -- ---- all blocks
-pub reached-more : {may : ℕ → ℕ → Bool} (blocks : List Block) {w : List ℕ} {reach : ℕ} (d : Block) (j : ℕ) → j < length blocks
-    → Reached may (take j blocks ++ (getD blocks j d ∷ [])) w reach → Reached may (take (j + 1) blocks) w reach
-reached-more {may} blocks {w} {reach} d j l g =
-    subst (λ (bs : List Block). Reached may bs w reach) (sym (ap (λ (i : ℕ). take i blocks) (add-one j) ∙ take-suc blocks j d l)) g
+pub reached-more : {may : ℕ → ℕ → Bool} (vs : List ℕ) {w : List ℕ} {reach : ℕ} (j : ℕ) {b : Block} → b ≡ blockIn (getD vs j 0)
+    → Reached may (lent j vs ++ (b ∷ [])) w reach → Reached may (lent (j + 1) vs) w reach
+reached-more {may} vs {w} {reach} j {b} is g =
+    let e : lent (j + 1) vs ≡ lent j vs ++ (b ∷ []) = ap (λ (i : ℕ). lent i vs) (add-one j) ∙ lent-more j vs ∙ ap (λ (x : Block). lent j vs ++ (x ∷ [])) (sym is) in
+    subst (λ (bs : List Block). Reached may bs w reach) (sym e) g
 
-pub reached-end : {may : ℕ → ℕ → Bool} {bs : List Block} {w : List ℕ} {reach : ℕ} {r : Bool} → Reached may bs w reach → r ≡ bit reach (length w) → Passing (Cuts may bs 0 (length w) w) r
+reached-end : {may : ℕ → ℕ → Bool} {bs : List Block} {w : List ℕ} {reach : ℕ} {r : Bool} → Reached may bs w reach → r ≡ bit reach (length w) → Passing (Cuts may bs 0 (length w) w) r
 reached-end {may} {bs} {w} {reach} g q =
     subst (λ (t : Bool). Passing (Cuts may bs 0 (length w) w) t) (sym q)
     (subst (λ (x : List ℕ). Passing (Cuts may bs 0 (length w) x) (bit reach (length w))) (take-length w) (g .at (length w) (omega arith)))
+
+pub reached-all : {may : ℕ → ℕ → Bool} (count : ℕ) (vs : List ℕ) {w : List ℕ} {reach : ℕ} {r : Bool} → Reached may (lent count vs) w reach → r ≡ bit reach (length w)
+    → Passing (Cuts may (blocksIn (take count vs)) 0 (length w) w) r
+reached-all {may} count vs {w} g q = passing-same (lent-cuts may count vs 0 (length w) w) (cuts-lent may count vs 0 (length w) w) (reached-end g q)

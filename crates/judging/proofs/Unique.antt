@@ -9,7 +9,7 @@ use Rattle.judging.proofs.cut_passes.Kinds as passes-kinds
 use Rattle.judging.proofs.filling_passes.Reads as filled-reads
 use Rattle.judging.proofs.filling_passes.Kinds as filled-kinds
 
-pub cut-passes-unique : (κs : Lfts 2) (a : Dens κs passes-kinds.ps) (r r' : resT passes-kinds.r κs .Denot) (s s' : AtExit (endedOf 2 passes-kinds.ps passes-kinds.r) κs)
+pub cut-passes-unique : (κs : Lfts 3) (a : Dens κs passes-kinds.ps) (r r' : resT passes-kinds.r κs .Denot) (s s' : AtExit (endedOf 3 passes-kinds.ps passes-kinds.r) κs)
     → passes-reads.Post κs a r s → passes-reads.Post κs a r' s' → r ≡ r'
 cut-passes-unique κs a r r' s s' p q = passing-unique p q
 

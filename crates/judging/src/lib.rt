@@ -2,8 +2,10 @@
 ghost use Prim.Native.Nat.{_≤_};
 ghost use lib.ListN.{take, length};
 ghost use Rattle.rows.specs.Rows.{may};
+ghost use Rattle.blocks.specs.Numbers.{blocksIn};
 ghost use Rattle.blocks.specs.Pieces.{Inside, Cuts, Fills, Passing};
 use blocks::Block;
+use blocks::block_at;
 use masks::has_place;
 use masks::with;
 use reach::fresh;
@@ -11,14 +13,14 @@ use reach::fresh;
 mod reach; // the places of an offered list that the blocks so far reach
 
 // Whether w is a cut by the first `count` blocks of as many elements as it has bytes.
-pub fn cut_passes(rows: &[u32; 32], blocks: [Block; 32], count: usize, w: &[u8]) -> bool
-    requires { ⌜ (count ≤ 32) × (length (now w) ≤ 32) × Inside (take count blocks) ⌝ }
-    ensures { λ r. ⌜ Passing (Cuts (may (now (rows .entry))) (take count blocks) 0 (length (now (w .entry))) (now (w .entry))) r ⌝ }
+pub fn cut_passes(rows: &[u32; 32], blocks: &[u32; 32], count: usize, w: &[u8]) -> bool
+    requires { ⌜ (count ≤ 32) × (length (now w) ≤ 32) × Inside (blocksIn (take count (now blocks))) ⌝ }
+    ensures { λ r. ⌜ Passing (Cuts (may (now (rows .entry))) (blocksIn (take count (now (blocks .entry)))) 0 (length (now (w .entry))) (now (w .entry))) r ⌝ }
 {
     let mut reach = reach::start();
     let mut j = 0;
     while j < count {
-        let b = blocks[j];
+        let b = block_at(blocks, j);
         let next = reach::extend(rows, b, reach, w);
         reach = next;
         j += 1;
