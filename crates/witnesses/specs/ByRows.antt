@@ -1,0 +1,17 @@
+-- Which assignments a body takes, by what a plan says of it. `may m e` says that member m may take element e, however it is held.
+-- AllowsBy subset bs k may n w <-> w gives each of n elements a member below k of its own, where the body is a subset; else w is cut by the blocks bs
+-- Allows kind bs k may n w    <-> w is an assignment of n elements such as a body of this kind takes, with these blocks and k members
+-- Assumes nothing: these are definitions.
+use mathlib.Core.Bool.{Bool, true, false}
+use mathlib.Core.List.{List}
+use Prim.Native.Nat.{ℕ}
+use lib.Dec.{eqb}
+use Rattle.blocks.specs.declared.Block.{Block}
+use Rattle.blocks.specs.Pieces.{Cuts, Fills}
+
+abbrev pub AllowsBy : Bool → List Block → ℕ → (ℕ → ℕ → Bool) → ℕ → List ℕ → Type 0
+AllowsBy true bs k may n w = Fills may k n w
+AllowsBy false bs k may n w = Cuts may bs 0 n w
+
+unfoldable pub Allows : ℕ → List Block → ℕ → (ℕ → ℕ → Bool) → ℕ → List ℕ → Type 0
+Allows kind bs k may n w = AllowsBy (eqb kind 0x13) bs k may n w
