@@ -1,7 +1,7 @@
 -- The answers of the entry points: in the order of the table each row gives its number, and where none holds the answer is the first witness's. Assumes nothing.
 -- Matched s t xs room <-> the first witness, and the answer with it
 -- few-members: an accepted template has at most 32 members. reads, judges: where no row before the scan holds, the reading decides.
--- matched-where, unmatched-where, refused-where, judged-where: what it decides. match-two, match-eleven, match-twelve, judge-two, judge-eleven, judge-thirteen: the rows before it.
+-- matched-where, unmatched-where, refused-where, judged, judged-where: what it decides. match-two, match-eleven, match-twelve, judge-two, judge-eleven, judge-thirteen: the rows before it.
 use mathlib.Core.Path.{_≡_, refl, sym, ap, _∙_}
 use mathlib.Core.Bool.{Bool, true, false, cond}
 use mathlib.Core.List.{List, [], _++_}
@@ -94,7 +94,7 @@ pub judges : (t : List ℕ) (xs : List ℤ) (w : List ℕ) → Taken t xs → le
 unfolding judgeAnswer
 judges t xs w k l = rw (le-ltb 4096 (length t) (k .0), le-ltb 32 (length xs) (k .1), eq-eqb (length w) (length xs) l)
 
-judged : (t : List ℕ) (xs : List ℤ) (w : List ℕ) (s : Template Leaf) → Taken t xs → length w ≡ length xs → readTemplate leafHead t ≡ got s [] → judgeAnswer t xs w ≡ cond (obeys s xs w) 0 1
+pub judged : (t : List ℕ) (xs : List ℤ) (w : List ℕ) (s : Template Leaf) → Taken t xs → length w ≡ length xs → readTemplate leafHead t ≡ got s [] → judgeAnswer t xs w ≡ cond (obeys s xs w) 0 1
 unfolding judgeRead
 judged t xs w s k l q = judges t xs w k l ∙ ap (λ u. judgeRead u xs w) q
 

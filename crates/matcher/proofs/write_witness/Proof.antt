@@ -1,14 +1,14 @@
 -- `matcher::write_witness` meets its contract. The loop: the first i bytes of the room are those of w, and the others as they were. The
 -- measure is the number of bytes left. Assumes nothing.
-use mathlib.Core.Path.{_≡_, refl, sym, ap, _∙_}
+use mathlib.Core.Path.{_≡_, refl, ap, _∙_}
 use mathlib.Core.List.{_++_}
-use Prim.Native.Nat.{ℕ, _+_, _-_, _≤_}
+use Prim.Native.Nat.{_-_, _≤_}
 use native.Mathlib.Omega.{arith}
 use native.Mathlib.Numerals.{add-one}
 use borrow.Kind.Array.{eInt, good-length}
 use mir.Syntax.{w8}
-use lib.ListN.{length, take, drop, getD}
-use Rattle.matcher.proofs.ByPlan.{copy-step, copy-length}
+use lib.ListN.{length, take, drop}
+use Rattle.matcher.proofs.Copying.{copy-step, copy-length}
 use Rattle.matcher.proofs.write_witness.Statement.{statement}
 use Rattle.matcher.proofs.write_witness.Tie as tie
 use Rattle.matcher.proofs.write_witness.Reads as reads

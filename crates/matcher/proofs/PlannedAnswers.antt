@@ -1,0 +1,91 @@
+-- From the plan and what is found by it to the answers of the entry points: where no row of the table before the scan holds. Assumes nothing.
+use mathlib.Core.Path.{_≡_, sym, ap, _∙_}
+use mathlib.Core.Bool.{Bool, true, false, _&&_, cond}
+use mathlib.Core.List.{List, [], _++_}
+use Prim.Native.Nat.{ℕ, _≤_}
+use native.Mathlib.Omega.{arith}
+use lib.Dec.{leb}
+use lib.ListN.{length, take, drop}
+use lib.Seq.{length-take-le}
+use lib.IntN.{ℤ}
+use Rattle.facts.proofs.Cases.{not-so}
+use Rattle.rows.specs.Rows.{may}
+use Rattle.byte_order.specs.ByteOrder.{First}
+use Rattle.blocks.specs.Numbers.{blocksIn}
+use Rattle.blocks.specs.Pieces.{Best, Passing}
+use Rattle.grammar.specs.Element.{Elem}
+use Rattle.grammar.specs.Leaf.{Leaf, leafHead}
+use Rattle.grammar.specs.Template.{Template, template}
+use Rattle.grammar.specs.Read.{got}
+use Rattle.grammar.specs.Whole.{readTemplate}
+use Rattle.grammar.specs.Blocks.{Standing}
+use Rattle.plans.specs.declared.Plan.{Plan}
+use Rattle.plans.specs.Plans.{PlanOf, refusedPlan, aPlan}
+use Rattle.member_rows.specs.Contract.{RowsOf}
+use Rattle.witnesses.specs.ByRows.{Allows}
+use Rattle.matching.specs.Obeys.{lengthMet, obeys, Obeys}
+use Rattle.matching.specs.Answer.{given, written, matchRead, matchAnswer, judgeRead, judgeAnswer, Taken}
+use Rattle.matching.proofs.FirstWitness.{witness-first}
+use Rattle.matching.proofs.Answers.{few-members, reads, unmatched-where, refused-where, judges, judged}
+use Rattle.matcher.proofs.ByPlan.{Ready, planned-ready, length-by, unmet-none, best-by, pass-by}
+
+-- the first of the lists that obey is the answer's witness
+matched-first : (t : List ℕ) (xs : List ℤ) (room : List ℕ) (s : Template Leaf) → Taken t xs → length xs ≤ length room → readTemplate leafHead t ≡ got s []
+    → (w : List ℕ) → First (Obeys s xs) w → length w ≡ length xs → matchAnswer t xs room ≡ given 0 (w ++ drop (length xs) room)
+unfolding matchRead written
+matched-first t xs room s k l q w f z =
+    reads t xs room k l ∙ ap (λ u. matchRead u xs room) q ∙ ap (λ m. written m room) (witness-first s xs w f (few-members t s q)) ∙ ap (λ d. given 0 (w ++ drop d room)) z
+
+module _ (t : List ℕ) (xs : List ℤ) (taken : Taken t xs) (p : Plan) (plan : PlanOf t p) where
+  -- ---- the template is refused
+  pub match-refused : (room : List ℕ) → length xs ≤ length room → (p .number ≡ 0 → ⊥) → given (p .number) room ≡ matchAnswer t xs room
+  match-refused room fits n = go plan
+    where
+      go : PlanOf t p → given (p .number) room ≡ matchAnswer t xs room
+      go (refusedPlan number q z e) = ap (λ (p : Plan). given (p .number) room) e ∙ sym (refused-where t xs room number taken fits q)
+      go (aPlan a b q z pl) = absurd (n z)
+
+  pub judge-refused : (w : List ℕ) → length w ≡ length xs → (p .number ≡ 0 → ⊥) → p .number ≡ judgeAnswer t xs w
+  unfolding judgeRead
+  judge-refused w size n = go plan
+    where
+      go : PlanOf t p → p .number ≡ judgeAnswer t xs w
+      go (refusedPlan number q z e) = ap (λ (p : Plan). p .number) e ∙ sym (judges t xs w taken size ∙ ap (λ u. judgeRead u xs w) q)
+      go (aPlan a b q z pl) = absurd (n z)
+
+  -- ---- the template is accepted
+  module _ (zero : p .number ≡ 0) (met : Bool) (says : met ≡ (leb (p .low) (length xs) && leb (length xs) (p .high))) where
+    ready : Ready t p (length xs)
+    ready = planned-ready t p (length xs) plan zero (taken .1)
+
+    met-is : met ≡ lengthMet (ready .attribute) (length xs)
+    met-is = length-by t p xs (taken .1) met says (ready .attribute) (ready .body) (ready .planned)
+
+    pub match-unmet : (room : List ℕ) → length xs ≤ length room → met ≡ false → given 1 room ≡ matchAnswer t xs room
+    match-unmet room fits f =
+        sym (unmatched-where t xs room (template (ready .attribute) (ready .body)) taken fits (ready .accepted) (unmet-none (ready .attribute) (ready .body) xs (sym met-is ∙ f)))
+
+    pub judge-unmet : (w : List ℕ) → length w ≡ length xs → met ≡ false → 1 ≡ judgeAnswer t xs w
+    judge-unmet w size f =
+        let s = template (ready .attribute) (ready .body) in
+        sym (judged t xs w s taken size (ready .accepted) ∙ ap (λ b. cond b 0 1) (not-so (obeys s xs w) (unmet-none (ready .attribute) (ready .body) xs (sym met-is ∙ f) w)))
+
+    -- ---- the length is met
+    module _ (so : met ≡ true) (rows : List ℕ) (right : (es : List (Elem Leaf)) → Standing t es (take (p .members) (p .places)) → RowsOf es xs rows) where
+      module _ (found : Bool) (w : List ℕ) (best : Best (Allows (p .kind) (blocksIn (take (p .count) (p .blocks))) (p .members) (may rows) (length xs)) (length xs) found w) (room : List ℕ) (fits : length xs ≤ length room) where
+        first : Best (Obeys (template (ready .attribute) (ready .body)) xs) (length xs) found w
+        first = best-by ready (sym met-is ∙ so) right best
+
+        pub match-none : found ≡ false → given 1 room ≡ matchAnswer t xs room
+        match-none f = sym (unmatched-where t xs room (template (ready .attribute) (ready .body)) taken fits (ready .accepted) (first .none f))
+
+        pub match-found : found ≡ true → (after : List ℕ) → after ≡ take (length xs) w ++ drop (length xs) room → given 0 after ≡ matchAnswer t xs room
+        match-found f after c =
+            let s = first .size in
+            let l : length xs ≤ 32 = taken .1 in
+            ap (given 0) c ∙ sym (matched-first t xs room (template (ready .attribute) (ready .body)) taken fits (ready .accepted) (take (length xs) w) (first .best f) (length-take-le (length xs) w (omega arith)))
+
+      pub judge-says : (w : List ℕ) → length w ≡ length xs → (r : Bool) → Passing (Allows (p .kind) (blocksIn (take (p .count) (p .blocks))) (p .members) (may rows) (length w) w) r → cond r 0 1 ≡ judgeAnswer t xs w
+      judge-says w size r h =
+          let s = template (ready .attribute) (ready .body) in
+          ap (λ b. cond b 0 1) (pass-by ready (sym met-is ∙ so) right w (rw size at h)) ∙ sym (judged t xs w s taken size (ready .accepted))
