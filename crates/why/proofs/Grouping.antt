@@ -1,57 +1,64 @@
 -- From the plan to the group. Assumes nothing.
--- group-long, group-many, group-refused: where a row of the table holds there is none. group-by: else what the plan's template and the list ask.
+-- accepted-short: an accepted template has at most 4,096 bytes. group-many, group-refused: where a row of the table holds there is none. group-by: else what the plan's template and the list ask.
 -- unmet-asks, other-asks, superset-asks, subset-asks: that, by the length, the kind and the rows; group-unmet, group-other, group-superset,
 -- group-subset: the same by the plan. neither, the-other: what the test of the kind says.
 use mathlib.Core.Path.{_≡_, refl, sym, ap, _∙_, subst}
 use mathlib.Core.Bool.{Bool, true, false, _&&_, _||_, cond}
 use mathlib.Core.Logic.{⊎-elim}
 use mathlib.Core.List.{List, []}
-use Prim.Native.Nat.{ℕ, _<_}
+use Prim.Native.Nat.{ℕ, _≤_, _<_}
 use native.Mathlib.Omega.{arith}
 use lib.Dec.{eqb, leb}
 use lib.ListN.{length, getD, take}
 use lib.IntN.{ℤ, pos}
 use borrow.Author.Tests.{lt-ltb, eqb-true, eq-eqb}
 use Rattle.rows.specs.Rows.{may}
-use Rattle.facts.proofs.Cases.{clash, one-of, or-left, or-right}
+use Rattle.facts.proofs.Cases.{below, clash, one-of, or-left, or-right}
 use Rattle.grammar.specs.Element.{Elem}
 use Rattle.grammar.specs.Leaf.{Leaf, leafHead}
 use Rattle.grammar.specs.Template.{Body, recordOf, setOf, superset, subset, Length, Template, template, membersOf}
-use Rattle.grammar.specs.Read.{got}
+use Rattle.grammar.specs.Read.{refuse, got}
 use Rattle.grammar.specs.Whole.{readTemplate}
 use Rattle.grammar.specs.Blocks.{bodyKind, Standing}
 use Rattle.grammar.specs.Matches.{matches}
 use Rattle.grammar.specs.Members.{memberHits}
-use Rattle.member_rows.specs.Contract.{Planned, PlanOf, noPlan, aPlan, RowsOf}
-use Rattle.member_rows.specs.declared.Plan.{Plan}
+use Rattle.plans.specs.Plans.{Planned, PlanOf, refusedPlan, aPlan}
+use Rattle.plans.specs.declared.Plan.{Plan}
+use Rattle.member_rows.specs.Contract.{RowsOf}
 use Rattle.matching.specs.Obeys.{lengthMet}
 use Rattle.matching.specs.Answer.{Taken}
 use Rattle.matcher.proofs.ByPlan.{length-by}
+use Rattle.grammar.proofs.ReadApart.{clash as clash-read}
 use Rattle.reasons.specs.Reason.{Given}
 use Rattle.reasons.proofs.Groups.{given-agree}
 use Rattle.why.specs.Why.{pairs, ofNothing, askedBy, askedOf}
 use Rattle.why.specs.Contract.{Grouped, GroupFor}
+
+accepted-short : (t : List ℕ) (s : Template Leaf) → readTemplate leafHead t ≡ got s [] → length t ≤ 4096
+unfolding readTemplate
+accepted-short t s q =
+    ⊎-elim
+    (λ (l : 4096 < length t). let e : readTemplate leafHead t ≡ refuse 2 = rw (lt-ltb 4096 (length t) l) in absurd (clash-read (sym e ∙ q)))
+    (λ (l : length t ≤ 4096). l)
+    (below 4096 (length t))
 
 -- ---- no group
 module _ (t : List ℕ) (xs : List ℤ) where
   none-for : ((s : Template Leaf) → Taken t xs → readTemplate leafHead t ≡ got s [] → ⊥) → GroupFor t xs 0
   none-for never = record { accepted = λ some. absurd (some refl); group = λ k s q. absurd (never s k q) }
 
-  pub group-long : 4096 < length t → GroupFor t xs 0
-  group-long l = none-for (λ s k q. let z = k .0 in omega arith)
-
   pub group-many : 32 < length xs → GroupFor t xs 0
   group-many l = none-for (λ s k q. let z = k .1 in omega arith)
 
   pub group-refused : (p : Plan) → PlanOf t p → (p .number ≡ 0 → ⊥) → GroupFor t xs 0
-  group-refused p (noPlan q z) n = none-for (λ s k e. let c : _≡_ {A = ℕ} 0 1 = cc in omega arith)
+  group-refused p (refusedPlan r q z e) n = none-for (λ s k e. let c : _≡_ {A = ℕ} 0 1 = cc in omega arith)
   group-refused p (aPlan a b q z pl) n = absurd (n z)
 
   -- ---- what is asked of the plan's template
-  pub group-by : (p : Plan) (g : ℕ) → PlanOf t p → Taken t xs → p .number ≡ 0 → ((a : Length) (b : Body Leaf) → Planned t a b p → Grouped (askedOf (template a b) xs) g) → GroupFor t xs g
-  group-by p g (noPlan q z) k n h = absurd (omega arith)
+  pub group-by : (p : Plan) (g : ℕ) → PlanOf t p → length xs ≤ 32 → p .number ≡ 0 → ((a : Length) (b : Body Leaf) → Planned t a b p → Grouped (askedOf (template a b) xs) g) → GroupFor t xs g
+  group-by p g (refusedPlan r q z e) k n h = let y : r ≡ 0 = sym (ap (λ (x : Plan). x .number) e) ∙ n in absurd (omega arith)
   group-by p g (aPlan a b q z pl) k n h = record {
-    accepted = λ some. (template a b, k, q);
+    accepted = λ some. (template a b, (accepted-short t (template a b) q, k), q);
     group = λ k s e. let same : template a b ≡ s = cc in subst (λ (s : Template Leaf). Grouped (askedOf s xs) g) same (h a b pl);
   }
 
@@ -91,13 +98,13 @@ subset-asks (superset es) xs rows g k r h = absurd (omega arith)
 subset-asks (subset es) xs rows g k r h = given-agree (λ e m l i. rows-pairs r m e i l) h
 
 -- ---- by the plan
-module _ (t : List ℕ) (p : Plan) (xs : List ℤ) (taken : Taken t xs) (plan : PlanOf t p) (zero : p .number ≡ 0) (met : Bool) (says : met ≡ (leb (p .low) (length xs) && leb (length xs) (p .high))) where
+module _ (t : List ℕ) (p : Plan) (xs : List ℤ) (short : length xs ≤ 32) (plan : PlanOf t p) (zero : p .number ≡ 0) (met : Bool) (says : met ≡ (leb (p .low) (length xs) && leb (length xs) (p .high))) where
   pub group-unmet : met ≡ false → GroupFor t xs 0
-  group-unmet m = group-by t xs p 0 plan taken zero (λ a b pl. unmet-asks a b xs (sym (length-by t p xs (taken .1) met says a b pl) ∙ m))
+  group-unmet m = group-by t xs p 0 plan short zero (λ a b pl. unmet-asks a b xs (sym (length-by t p xs short met says a b pl) ∙ m))
 
   module _ (m : met ≡ true) where
     by-body : (g : ℕ) → ((a : Length) (b : Body Leaf) → Planned t a b p → Grouped (askedBy b xs) g) → GroupFor t xs g
-    by-body g h = group-by t xs p g plan taken zero (λ a b pl. body-asks a b xs g (sym (length-by t p xs (taken .1) met says a b pl) ∙ m) (h a b pl))
+    by-body g h = group-by t xs p g plan short zero (λ a b pl. body-asks a b xs g (sym (length-by t p xs short met says a b pl) ∙ m) (h a b pl))
 
     pub group-other : (p .kind ≡ 0x12 → ⊥) → (p .kind ≡ 0x13 → ⊥) → GroupFor t xs 0
     group-other n o = by-body 0 (λ a b pl. other-asks b xs (λ k. n (pl .kind ∙ k)) (λ k. o (pl .kind ∙ k)))

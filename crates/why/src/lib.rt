@@ -2,6 +2,7 @@
 ghost use mathlib.Core.Path.{_≡_};
 ghost use mathlib.Core.Bool.{_||_};
 ghost use lib.Dec.{eqb};
+ghost use Rattle.plans.specs.Plans.{PlanOf};
 ghost use Rattle.why.specs.Why.{WhyOf};
 ghost use Rattle.why.specs.Contract.{GroupFor};
 use format::DONE;
@@ -9,13 +10,13 @@ use format::LIST_MOST;
 use format::NO_MATCH;
 use format::SUBSET;
 use format::SUPERSET;
-use format::TEMPLATE_MOST;
 use matcher::length_met;
-use matcher::match_list;
-use member_rows::plan_of;
+use matcher::match_planned;
 use member_rows::rows_of;
+use plans::Plan;
 use reasons::exchanged_reason;
 use reasons::reason;
+use template::plan_of;
 
 // The matcher's number; and the group as a mask, of a superset bit m for member m, of a subset bit e for element e, 0 where none is given.
 pub struct Why {
@@ -31,30 +32,26 @@ fn is_explained(kind: u8) -> bool
 }
 
 // The group, 0 where no group is short and where none is asked for.
-fn group_of(template: &[u8], list: &[i32]) -> u32
+fn group_of(template: &[u8], plan: Plan, list: &[i32]) -> u32
+    requires { ⌜ PlanOf (now template) plan ⌝ }
     ensures { λ r. ⌜ GroupFor (now (template .entry)) (now (list .entry)) r ⌝ }
 {
-    if TEMPLATE_MOST < template.len() {
-        return 0;
-    }
     if LIST_MOST < list.len() {
         return 0;
     }
-    let p = plan_of(template);
-    if p.number != DONE {
+    if plan.number != DONE {
         return 0;
     }
-    if !length_met(p.low, p.high, list.len()) {
+    if !length_met(plan.low, plan.high, list.len()) {
         return 0;
     }
-    let kind = p.kind;
+    let kind = plan.kind;
     if !is_explained(kind) {
         return 0;
     }
-    let k = p.members as u8;
+    let k = plan.members as u8;
     let n = list.len() as u8;
-    let places = p.places;
-    let rows = rows_of(template, places, p.members, list);
+    let rows = rows_of(template, &plan.places, plan.members, list);
     if kind == SUPERSET {
         return reason(&rows, k, n);
     }
@@ -66,7 +63,8 @@ fn group_of(template: &[u8], list: &[i32]) -> u32
 pub fn why_not(template: &[u8], list: &[i32]) -> Why
     ensures { λ r. ⌜ WhyOf (now (template .entry)) (now (list .entry)) (r .number) (r .group) ⌝ }
 {
-    let group = group_of(template, list);
+    let plan = plan_of(template);
+    let group = group_of(template, plan, list);
     if group != 0 {
         return Why {
             number: NO_MATCH,
@@ -74,6 +72,6 @@ pub fn why_not(template: &[u8], list: &[i32]) -> Why
         };
     }
     let mut room = [0u8; 32];
-    let number = match_list(template, list, &mut room);
+    let number = match_planned(template, plan, list, &mut room);
     Why { number, group }
 }
