@@ -17,10 +17,10 @@ use Rattle.grammar.specs.Element.{Elem, Elems}
 use Rattle.grammar.specs.Leaf.{Leaf, leafHead}
 use Rattle.grammar.specs.Read.{got}
 use Rattle.grammar.specs.Reading.{counted, many, elem}
-use Rattle.grammar.specs.Matches.{matchesBy, leafMatches, matches, anyMatches}
+use Rattle.grammar.specs.Matches.{matchesBy, matches, anyMatches}
 use Rattle.grammar.proofs.ReadApart.{grouped, many-inv, many-none}
-use Rattle.grammar.proofs.LeafBounds.{leaf-between}
 use Rattle.elements.specs.Leaves.{LeafHere, BoundsHere}
+use Rattle.elements.proofs.LeafByKind.{bounds-test}
 use Rattle.elements.proofs.ElementByKind as by-kind
 use Rattle.element_match.specs.Contract.{ElementAt, HitAt, LeafHit, Members, turn, WalkHit}
 use Rattle.element_match.specs.declared.Walk.{Walk}
@@ -30,10 +30,7 @@ use Rattle.element_match.specs.declared.Walk.{Walk}
 pub bounds-hit : (t : List ℕ) (at : ℕ) (x lower upper : ℤ) (hit : Bool) (next : ℕ) → Word x → BoundsHere t at lower upper next → hit ≡ (leZ lower x && leZ x upper) → LeafHit t at x hit next
 bounds-hit t at x lower upper hit next w h e = record {
   inside = h .inside;
-  right = λ l rest r.
-      let v = h .right l rest r in
-      let is : (leZ lower x && leZ x upper) ≡ leafMatches l x = rw (v .0, v .1) (sym (leaf-between l x w)) in
-      (e ∙ is, v .2);
+  right = λ l rest r. (e ∙ sym (bounds-test t at lower upper next h l rest r x w), h .right l rest r .2);
 }
 
 -- ---- the member at p
@@ -88,6 +85,7 @@ module _ (t : List ℕ) (p left : ℕ) (x : ℤ) (hit : Bool) (next : ℕ) where
         (v .0 ∙ sym (ap (λ o. matches o x) (a .is)), v .1);
   }
 
+  -- a list (c false) or a complement (c true)
   pub group-member : (c : Bool) → getD t p 0 ≡ cond c 5 4 → WalkHit c t (p + 2) (getD t (p + 1) 0) (left - 1) x hit next → MemberHit t p left x hit next
   unfolding matchesBy
   group-member c e h = record {

@@ -26,7 +26,8 @@ fn leaf_hit(t: &[u8], at: usize, x: i32) -> Walk
     }
 }
 
-// Whether at least one of the n element templates at `at` matches x. A leaf is read before any other: most members are leaves.
+// Whether at least one of the n element templates at `at` matches x. A leaf is read before any recursive call, which is faster; a kind that is
+// no leaf's and no list's is a complement's.
 fn any_of(t: &[u8], at: usize, n: usize, x: i32, left: usize) -> Walk
     requires { ⌜ Members (now t) at n left ⌝ }
     ensures { λ r. ⌜ WalkHit false (now (t .entry)) at n left x (r .hit) (r .next) ⌝ }

@@ -1,6 +1,6 @@
 -- An element template that was read where it stands, by its kind. Assumes nothing.
--- here-fits, kind-most: it has a kind, 5 at most. by-leaf: of a kind below 4 it is a leaf (leaf-there: as LeafHere says). by-group: of the kind of a list or a complement it is
--- one, with its members behind its count. bounds-match: a leaf matches what lies between its bounds.
+-- here-fits, kind-most: it has a kind, 5 at most. by-leaf, leaf-there: of a kind below 4 it is a leaf. by-group: of the kind of a list or a
+-- complement it is one, with its members behind its count. bounds-match: a leaf matches what lies between its bounds.
 use mathlib.Core.Path.{_≡_, refl, sym, ap, ap₂, _∙_}
 use mathlib.Core.Bool.{Bool, true, false, _&&_, cond}
 use mathlib.Core.List.{List}
@@ -17,8 +17,8 @@ use Rattle.grammar.specs.Read.{got}
 use Rattle.grammar.specs.Reading.{counted, many, elem}
 use Rattle.grammar.specs.Matches.{matchesBy, matches}
 use Rattle.grammar.proofs.ReadApart.{grouped, Got, gotLeaf, gotGroup, elem-inv, LeafAt, singleAt, rangeAt, anyAt, leaf-at, group-at}
-use Rattle.grammar.proofs.LeafBounds.{leaf-between}
 use Rattle.elements.specs.Leaves.{LeafHere, BoundsHere}
+use Rattle.elements.proofs.LeafByKind.{bounds-test}
 
 -- a leaf's kind is no list's and no complement's
 leaf-kind : (t : List ℕ) (at : ℕ) (l : Leaf) (rest : List ℕ) → LeafAt t at l rest → (at + 1 ≤ length t) × (getD t at 0 ≤ 3)
@@ -79,10 +79,7 @@ module _ (t : List ℕ) (at left k : ℕ) (e : Elem Leaf) (k′ : ℕ) (rest : L
 
   pub bounds-match : (lower upper : ℤ) (next : ℕ) → getD t at 0 < 4 → BoundsHere t at lower upper next → (x : ℤ) → Word x → matches e x ≡ (leZ lower x && leZ x upper)
   unfolding matchesBy
-  bounds-match lower upper next low h x w =
-      let a = by-leaf low in
-      let v = h .right (a .l) rest (a .reads) in
-      rw (a .is, v .0, v .1) (leaf-between (a .l) x w)
+  bounds-match lower upper next low h x w = let a = by-leaf low in rw (a .is) (bounds-test t at lower upper next h (a .l) rest (a .reads) x w)
 
   pub by-group : (c : Bool) → getD t at 0 ≡ cond c 5 4 → AGroup t at left k c e k′ rest
   by-group c s = go whole

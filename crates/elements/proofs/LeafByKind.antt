@@ -1,16 +1,21 @@
 -- A leaf where it stands, by its kind: which one it is, its size, and its bounds. Assumes nothing.
 -- LeafIs t at l size <-> the leaf l stands at `at`, in so many bytes
 -- leaf-fits: it has a kind. single-is, range-is, any-is: which leaf it is. single-bounds, range-bounds, any-bounds: its bounds.
+-- bounds-test: it matches what lies between them.
 use mathlib.Core.Path.{_≡_, refl, ap, _∙_}
+use mathlib.Core.Bool.{_&&_}
 use mathlib.Core.List.{List}
 use Prim.Native.Nat.{ℕ, _+_, _≤_}
 use native.Mathlib.Omega.{arith}
 use lib.IntN.{ℤ, pos, negsuc}
+use lib.Signed.{leZ}
 use lib.ListN.{length, getD, drop}
-use Rattle.integers.specs.Integer.{intAt}
+use Rattle.integers.specs.Integer.{Word, intAt}
 use Rattle.grammar.specs.Record.{leafHere, head}
 use Rattle.grammar.specs.Leaf.{Leaf, single, range, any, lowerOf, upperOf, leafHead}
+use Rattle.grammar.specs.Matches.{leafMatches}
 use Rattle.grammar.proofs.ReadApart.{LeafAt, singleAt, rangeAt, anyAt, leaf-at}
+use Rattle.grammar.proofs.LeafBounds.{leaf-between}
 use Rattle.elements.specs.Leaves.{LeafHere, BoundsHere}
 
 pub record LeafIs (t : List ℕ) (at : ℕ) (l : Leaf) (size : ℕ) : Type 0 where
@@ -76,3 +81,7 @@ module _ (t : List ℕ) (at : ℕ) where
   pub any-bounds : LeafIs t at any 1 → BoundsHere t at (negsuc 2147483647) (pos 2147483647) (at + 1)
   unfolding lowerOf upperOf
   any-bounds i = bounds-of any 1 _ _ i refl refl
+
+  pub bounds-test : (lower upper : ℤ) (next : ℕ) → BoundsHere t at lower upper next → (l : Leaf) (rest : List ℕ) → head leafHead (drop at t) ≡ leafHere l rest
+      → (x : ℤ) → Word x → leafMatches l x ≡ (leZ lower x && leZ x upper)
+  bounds-test lower upper next h l rest r x w = let v = h .right l rest r in rw (v .0, v .1) (leaf-between l x w)
