@@ -2,11 +2,13 @@
 ghost use mathlib.Core.Path.{_≡_};
 ghost use Prim.Native.Nat.{_+_, _≤_};
 ghost use lib.ListN.{length};
+ghost use Rattle.plans.specs.Plans.{PlanOf};
 use format::TEMPLATE_SIZE;
 use intake_lines::answer_next;
 use intake_lines::open_input;
 use libc::STDIN_FILENO;
 use libc::STDOUT_FILENO;
+use plans::Plan;
 
 // No line is longer.
 const LINE: usize = 256;
@@ -30,15 +32,15 @@ fn flushed(out: &[u8], filled: usize) -> usize
     filled
 }
 
-// Prints the lines of the lists from `first` on. They are collected in the buffer, so that not every line is a call of the system.
-fn print_lists(template: &[u8], input: &[u8], first: usize, out: &mut [u8])
-    requires { ⌜ (first ≤ length (now input)) × (length (now input) ≤ 65537) × (256 ≤ length (now out)) ⌝ }
+// Prints the lines of the lists from `first` on, by the plan of the template. They are collected in the buffer, so that not every line is a call of the system.
+fn print_lists(template: &[u8], plan: Plan, input: &[u8], first: usize, out: &mut [u8])
+    requires { ⌜ PlanOf (now template) plan × (first ≤ length (now input)) × (length (now input) ≤ 65537) × (256 ≤ length (now out)) ⌝ }
 {
     let mut at = first;
     let mut number: u32 = 1;
     let mut filled: usize = 0;
     loop {
-        let turn = answer_next(template, input, at, number, &mut out[filled..]);
+        let turn = answer_next(template, plan, input, at, number, &mut out[filled..]);
         let end = filled + turn.wrote;
         if !turn.more {
             io::write_all(STDOUT_FILENO, &out[..end]);
@@ -61,7 +63,8 @@ fn print_all(input: &[u8], out: &mut [u8])
         return;
     }
     let lists = head.next;
-    print_lists(&input[TEMPLATE_SIZE..lists], input, lists, out);
+    let plan = head.plan;
+    print_lists(&input[TEMPLATE_SIZE..lists], plan, input, lists, out);
 }
 
 fn main() {

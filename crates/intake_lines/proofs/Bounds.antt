@@ -2,11 +2,13 @@
 use mathlib.Core.Path.{_≡_, ap, _∙_}
 use mathlib.Core.Bool.{Bool, true, false}
 use mathlib.Core.List.{List}
-use Prim.Native.Nat.{ℕ, _+_, _≤_}
+use Prim.Native.Nat.{ℕ, _+_, _-_, _≤_}
 use native.Mathlib.Omega.{arith}
-use lib.ListN.{length, drop, length-append, length-drop}
+use lib.ListN.{length, take, drop, length-append, length-drop}
 use Rattle.facts.proofs.Cases.{clash}
 use Rattle.lines.specs.Contract.{Wrote}
+use Rattle.plans.specs.Plans.{PlanOf}
+use Rattle.plans.specs.declared.Plan.{Plan}
 use Rattle.intake_lines.specs.Output.{Turn}
 use Rattle.intake_lines.specs.Contract.{Headed, refused, found, Turned, stopped, went}
 
@@ -18,18 +20,22 @@ wrote-within l before after wrote same w =
     let n = w .count in
     omega arith
 
-module _ (s before after : List ℕ) (wrote next : ℕ) (more : Bool) where
-  pub headed-within : Headed s before after wrote next more → length after ≡ length before → wrote ≤ length before
-  headed-within (refused r q w n m) same = wrote-within _ before after wrote same w
-  headed-within (found q f i w m) same = wrote-within _ before after wrote same w
+module _ (s before after : List ℕ) (wrote next : ℕ) (more : Bool) (p : Plan) where
+  pub headed-within : Headed s before after wrote next more p → length after ≡ length before → wrote ≤ length before
+  headed-within (refused r q w n m e) same = wrote-within _ before after wrote same w
+  headed-within (found q f i w m pl) same = wrote-within _ before after wrote same w
 
-  pub headed-from : Headed s before after wrote next more → more ≡ true → 3 ≤ next
-  headed-from (refused r q w n m) go = absurd (clash go m)
-  headed-from (found q f i w m) go = f
+  pub headed-from : Headed s before after wrote next more p → more ≡ true → 3 ≤ next
+  headed-from (refused r q w n m e) go = absurd (clash go m)
+  headed-from (found q f i w m pl) go = f
 
-  pub headed-to : Headed s before after wrote next more → more ≡ true → next ≤ length s
-  headed-to (refused r q w n m) go = absurd (clash go m)
-  headed-to (found q f i w m) go = i
+  pub headed-to : Headed s before after wrote next more p → more ≡ true → next ≤ length s
+  headed-to (refused r q w n m e) go = absurd (clash go m)
+  headed-to (found q f i w m pl) go = i
+
+  pub headed-plan : Headed s before after wrote next more p → more ≡ true → PlanOf (take (next - 3) (drop 3 s)) p
+  headed-plan (refused r q w n m e) go = absurd (clash go m)
+  headed-plan (found q f i w m pl) go = pl
 
 module _ (u : Turn) (input : List ℕ) (at : ℕ) (before after : List ℕ) (wrote next : ℕ) (more : Bool) where
   pub turned-within : Turned u input at before after wrote next more → length after ≡ length before → wrote ≤ length before

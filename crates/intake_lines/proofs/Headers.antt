@@ -1,5 +1,5 @@
--- The header: the refusal of the whole input, in the order of the definition. Assumes nothing.
-use mathlib.Core.Path.{_≡_, refl, sym, ap, _∙_}
+-- The header: the refusal of the whole input, in the order of the definition, or the plan of its template. Assumes nothing.
+use mathlib.Core.Path.{_≡_, refl, sym, ap, subst, _∙_}
 use mathlib.Core.Bool.{true, false}
 use mathlib.Core.List.{List, [], _∷_}
 use Prim.Native.Nat.{ℕ, _-_, _≤_, _<_}
@@ -10,35 +10,36 @@ use borrow.Author.Tests.{lt-ltb, le-ltb}
 use Rattle.grammar.specs.Leaf.{leafHead}
 use Rattle.grammar.specs.Read.{Read, got, refuseOr, verdict}
 use Rattle.grammar.specs.Whole.{readTemplate}
-use Rattle.elements.specs.Contract.{Answered, rejected as answer-rejected, accepted as answer-accepted}
+use Rattle.plans.specs.Plans.{noPlan, PlanOf, refusedPlan, aPlan}
+use Rattle.plans.specs.declared.Plan.{Plan}
 use Rattle.lines.specs.Line.{line}
 use Rattle.lines.specs.Contract.{Wrote}
 use Rattle.stream.specs.Input.{recordFault, templateSize, afterTemplate, templateIn, reached}
 use Rattle.grammar.proofs.ReadApart.{refuse-is}
 use Rattle.stream.proofs.Lists.{record-long}
-use Rattle.intake_lines.specs.Contract.{RefusedBy, rejected, accepted, Headed, refused, found}
+use Rattle.intake_lines.specs.Contract.{InputPlan, rejected, accepted, Headed, refused, found}
 
-module _ (s : List ℕ) where
-  pub header-over : 65536 < length s → RefusedBy s 2
+pub header-long : (s : List ℕ) (r : ℕ) → r ≡ recordFault 0x50 3 s → r ≡ 0 → 3 ≤ length s
+header-long s r known none = record-long 0x50 3 s (sym known ∙ none)
+
+module _ (s : List ℕ) (p : Plan) where
+  pub header-over : 65536 < length s → p ≡ noPlan 2 → InputPlan s p
   unfolding reached
-  header-over h = rejected (rw (lt-ltb 65536 (length s) h)) (omega arith)
+  header-over h said = rejected 2 (rw (lt-ltb 65536 (length s) h)) (omega arith) said
 
   module _ (r : ℕ) (fits : length s ≤ 65536) (known : r ≡ recordFault 0x50 3 s) where
-    pub header-fault : (r ≡ 0 → ⊥) → RefusedBy s r
+    pub header-fault : (r ≡ 0 → ⊥) → p ≡ noPlan r → InputPlan s p
     unfolding reached
-    header-fault bad = rejected (rw (le-ltb 65536 (length s) fits, ← known) (refuse-is r _ bad)) (pos-of-ne-zero bad)
+    header-fault bad said = rejected r (rw (le-ltb 65536 (length s) fits, ← known) (refuse-is r _ bad)) (pos-of-ne-zero bad) said
 
-    pub header-long : r ≡ 0 → 3 ≤ length s
-    header-long none = record-long 0x50 3 s (sym known ∙ none)
-
-    pub header-missing : r ≡ 0 → (end : ℕ) → end ≡ afterTemplate s → length s < end → RefusedBy s 3
+    pub header-missing : r ≡ 0 → (end : ℕ) → end ≡ afterTemplate s → length s < end → p ≡ noPlan 3 → InputPlan s p
     unfolding reached
-    header-missing none end e h =
-        rejected (rw (le-ltb 65536 (length s) fits, ← known, none, lt-ltb (length s) (afterTemplate s) (omega arith))) (omega arith)
+    header-missing none end e h said =
+        rejected 3 (rw (le-ltb 65536 (length s) fits, ← known, none, lt-ltb (length s) (afterTemplate s) (omega arith))) (omega arith) said
 
-    pub header-verdict : r ≡ 0 → (end : ℕ) → end ≡ afterTemplate s → end ≤ length s → (code : ℕ) → Answered (readTemplate leafHead (take (end - 3) (drop 3 s))) code → RefusedBy s code
+    pub header-planned : r ≡ 0 → (end : ℕ) → end ≡ afterTemplate s → end ≤ length s → PlanOf (take (end - 3) (drop 3 s)) p → InputPlan s p
     unfolding reached verdict
-    header-verdict none end e h code answer = go answer
+    header-planned none end e h plan = go plan
       where
         size : end - 3 ≡ templateSize s
         size = omega arith
@@ -49,21 +50,26 @@ module _ (s : List ℕ) where
         here : reached s ≡ refuseOr (verdict (readTemplate leafHead (take (end - 3) (drop 3 s)))) whole
         here = rw (le-ltb 65536 (length s) fits, ← known, none, le-ltb (length s) (afterTemplate s) (omega arith), size)
 
-        go : Answered (readTemplate leafHead (take (end - 3) (drop 3 s))) code → RefusedBy s code
-        go (answer-rejected q p) = rejected (here ∙ ap (λ o. refuseOr (verdict o) whole) q ∙ refuse-is code whole (λ z. omega arith)) p
-        go (answer-accepted a q z) = accepted (here ∙ ap (λ o. refuseOr (verdict o) whole) q) z (omega arith)
+        go : PlanOf (take (end - 3) (drop 3 s)) p → InputPlan s p
+        go (refusedPlan number q l said) = rejected number (here ∙ ap (λ o. refuseOr (verdict o) whole) q ∙ refuse-is number whole (λ z. omega arith)) l said
+        go (aPlan a b q z w) =
+            accepted (here ∙ ap (λ o. refuseOr (verdict o) whole) q) z (omega arith)
+            (subst (λ (n : ℕ). PlanOf (take n (drop 3 s)) p) size plan)
 
-pub headed-refused : (s : List ℕ) (code : ℕ) (before after : List ℕ) (wrote : ℕ) → RefusedBy s code → (code ≡ 0 → ⊥) → Wrote (line 0 (code ∷ 0 ∷ [])) before after wrote
-    → Headed s before after wrote 0 false
-headed-refused s code before after wrote (rejected q p) bad w = refused code q w refl refl
-headed-refused s code before after wrote (accepted q z f) bad w = absurd (bad z)
+module _ (s : List ℕ) (p : Plan) where
+  pub headed-refused : (before after : List ℕ) (wrote : ℕ) → InputPlan s p → (p .number ≡ 0 → ⊥) → Wrote (line 0 (p .number ∷ 0 ∷ [])) before after wrote → Headed s before after wrote 0 false p
+  headed-refused before after wrote (rejected r q l said) bad w =
+      let same : p .number ≡ r = ap (λ (x : Plan). x .number) said in
+      refused r q (subst (λ (n : ℕ). Wrote (line 0 (n ∷ 0 ∷ [])) before after wrote) same w) refl refl said
+  headed-refused before after wrote (accepted q z f plan) bad w = absurd (bad z)
 
-pub headed-long : (s : List ℕ) (code : ℕ) → RefusedBy s code → code ≡ 0 → afterTemplate s ≤ length s
-headed-long s code (rejected q p) none = absurd (omega arith)
-headed-long s code (accepted q z f) none = f
+  pub headed-long : InputPlan s p → p .number ≡ 0 → afterTemplate s ≤ length s
+  headed-long (rejected r q l said) none = let same : p .number ≡ r = ap (λ (x : Plan). x .number) said in absurd (omega arith)
+  headed-long (accepted q z f plan) none = f
 
-pub headed-found : (s : List ℕ) (code : ℕ) (o : List ℕ) (end : ℕ) → RefusedBy s code → code ≡ 0 → end ≡ afterTemplate s → Headed s o o 0 end true
-headed-found s code o end (rejected q p) none e = absurd (omega arith)
-headed-found s code o end (accepted q z f) none e =
-    let size : templateSize s ≡ end - 3 = omega arith in
-    found (q ∙ ap (λ (n : ℕ). got (take n (drop 3 s)) (drop (afterTemplate s) s)) size ∙ ap (λ (n : ℕ). got (take (end - 3) (drop 3 s)) (drop n s)) (sym e)) (omega arith) (omega arith) (record { bytes = refl; count = refl }) refl
+  pub headed-found : (o : List ℕ) (end : ℕ) → InputPlan s p → p .number ≡ 0 → end ≡ afterTemplate s → Headed s o o 0 end true p
+  headed-found o end (rejected r q l said) none e = let same : p .number ≡ r = ap (λ (x : Plan). x .number) said in absurd (omega arith)
+  headed-found o end (accepted q z f plan) none e =
+      let size : templateSize s ≡ end - 3 = omega arith in
+      found (q ∙ ap (λ (n : ℕ). got (take n (drop 3 s)) (drop (afterTemplate s) s)) size ∙ ap (λ (n : ℕ). got (take (end - 3) (drop 3 s)) (drop n s)) (sym e)) (omega arith) (omega arith) (record { bytes = refl; count = refl }) refl
+      (subst (λ (n : ℕ). PlanOf (take n (drop 3 s)) p) size plan)

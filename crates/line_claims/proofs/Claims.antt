@@ -15,6 +15,7 @@ use Rattle.lines.specs.Line.{line}
 use Rattle.lines.specs.Contract.{Wrote}
 use Rattle.stream.specs.Input.{listHere}
 use Rattle.stream.proofs.Rests.{list-rest}
+use Rattle.plans.specs.declared.Plan.{Plan}
 use Rattle.intake_lines.specs.Output.{Turn, stop, go, turned, turn, follow, linesBy, linesFrom, started, output}
 use Rattle.intake_lines.specs.Contract.{Headed, refused, found, Turned, stopped, went}
 use Rattle.line_claims.specs.Claims.{Steps, last, then, onlyHeader, headerThen, StepIsLast, StepThenRest, OutputPrinted}
@@ -96,18 +97,18 @@ steps-print t input _ _ _ (last at k before after wrote next u) = last-prints t 
 steps-print t input _ _ _ (then at k before after wrote next ls u s) =
     then-prints t input at k before after wrote next u ls (steps-print t input next (k + 1) ls s)
 
-header-prints : (input before after : List ℕ) (wrote next : ℕ) → Headed input before after wrote next false → take wrote after ≡ output input
-unfolding output started
-header-prints input before after wrote next (refused r e w n m) = in-front (line 0 (r ∷ 0 ∷ [])) before after wrote w ∙ sym (ap started e)
-header-prints input before after wrote next (found e f i w m) = absurd (clash refl (sym m))
+module _ (input before after : List ℕ) (wrote next : ℕ) (plan : Plan) where
+  header-prints : Headed input before after wrote next false plan → take wrote after ≡ output input
+  unfolding output started
+  header-prints (refused r e w n m p) = in-front (line 0 (r ∷ 0 ∷ [])) before after wrote w ∙ sym (ap started e)
+  header-prints (found e f i w m p) = absurd (clash refl (sym m))
 
-header-found : (input before after : List ℕ) (wrote next : ℕ) → Headed input before after wrote next true
-    → linesFrom (take (next - 3) (drop 3 input)) 1 (drop next input) ≡ output input
-unfolding output started
-header-found input before after wrote next (refused r e w n m) = absurd (clash refl m)
-header-found input before after wrote next (found e f i w m) = sym (ap started e)
+  header-found : Headed input before after wrote next true plan → linesFrom (take (next - 3) (drop 3 input)) 1 (drop next input) ≡ output input
+  unfolding output started
+  header-found (refused r e w n m p) = absurd (clash refl m)
+  header-found (found e f i w m p) = sym (ap started e)
 
 pub outputPrinted : OutputPrinted
-outputPrinted input _ (onlyHeader before after wrote next h) = header-prints input before after wrote next h
-outputPrinted input _ (headerThen before after wrote next ls h s) =
-    steps-print (take (next - 3) (drop 3 input)) input next 1 ls s ∙ header-found input before after wrote next h
+outputPrinted input _ (onlyHeader before after wrote next plan h) = header-prints input before after wrote next plan h
+outputPrinted input _ (headerThen before after wrote next plan ls h s) =
+    steps-print (take (next - 3) (drop 3 input)) input next 1 ls s ∙ header-found input before after wrote next plan h

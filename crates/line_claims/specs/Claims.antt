@@ -11,6 +11,7 @@ use mathlib.Core.Bool.{true, false}
 use mathlib.Core.List.{List, _++_}
 use Prim.Native.Nat.{ℕ, _+_, _-_}
 use lib.ListN.{take, drop}
+use Rattle.plans.specs.declared.Plan.{Plan}
 use Rattle.intake_lines.specs.Output.{stop, go, turn, linesFrom, output}
 use Rattle.intake_lines.specs.Contract.{Headed, Turned}
 
@@ -21,8 +22,8 @@ pub data Steps (t input : List ℕ) : ℕ → ℕ → List ℕ → Type 0 where
       → Steps t input next (k + 1) l → Steps t input at k (take wrote after ++ l)
 
 pub data Printed (input : List ℕ) : List ℕ → Type 0 where
-  onlyHeader : (before after : List ℕ) (wrote next : ℕ) → Headed input before after wrote next false → Printed input (take wrote after)
-  headerThen : (before after : List ℕ) (wrote next : ℕ) (l : List ℕ) → Headed input before after wrote next true
+  onlyHeader : (before after : List ℕ) (wrote next : ℕ) (plan : Plan) → Headed input before after wrote next false plan → Printed input (take wrote after)
+  headerThen : (before after : List ℕ) (wrote next : ℕ) (plan : Plan) (l : List ℕ) → Headed input before after wrote next true plan
       → Steps (take (next - 3) (drop 3 input)) input next 1 l → Printed input l
 
 abbrev pub StepIsLast : Type 0

@@ -10,12 +10,12 @@ use Rattle.matcher.proofs.length_met.Reads as length-met
 use Rattle.matcher.proofs.length_met.Kinds as length-met-kinds
 use Rattle.matcher.proofs.match_planned.Reads as match-planned
 use Rattle.matcher.proofs.match_planned.Kinds as match-planned-kinds
+use Rattle.matcher.proofs.judge_planned.Reads as judge-planned
+use Rattle.matcher.proofs.judge_planned.Kinds as judge-planned-kinds
 use Rattle.matcher.proofs.match_list.Reads as match-list
 use Rattle.matcher.proofs.match_list.Kinds as match-list-kinds
 use Rattle.matcher.proofs.judge.Reads as judge
 use Rattle.matcher.proofs.judge.Kinds as judge-kinds
-use Rattle.matcher.proofs.judge_planned.Reads as judge-planned
-use Rattle.matcher.proofs.judge_planned.Kinds as judge-planned-kinds
 
 one-given : (g : Given) (r r′ : ℕ) (a a′ : List ℕ) → given r a ≡ g → given r′ a′ ≡ g → (r ≡ r′) × (a ≡ a′)
 one-given g r r′ a a′ p q = (cc, cc)
@@ -28,10 +28,6 @@ pub judge-planned-unique : (κs : Lfts 3) (a : Dens κs judge-planned-kinds.ps) 
     → judge-planned.Post κs a r s → judge-planned.Post κs a r′ s′ → r ≡ r′
 judge-planned-unique κs a r r′ s s′ p q = p ∙ sym q
 
-pub length-met-unique : (κs : Lfts 0) (a : Dens κs length-met-kinds.ps) (r r′ : resT length-met-kinds.r κs .Denot) (s s′ : AtExit (endedOf 0 length-met-kinds.ps length-met-kinds.r) κs)
-    → length-met.Post κs a r s → length-met.Post κs a r′ s′ → r ≡ r′
-length-met-unique κs a r r′ s s′ p q = p ∙ sym q
-
 pub match-list-unique : (κs : Lfts 3) (a : Dens κs match-list-kinds.ps) (r r′ : resT match-list-kinds.r κs .Denot) (s s′ : AtExit (endedOf 3 match-list-kinds.ps match-list-kinds.r) κs)
     → match-list.Post κs a r s → match-list.Post κs a r′ s′ → (r ≡ r′) × (s .1 .1 .0 .now ≡ s′ .1 .1 .0 .now)
 match-list-unique κs a r r′ s s′ p q = one-given _ r r′ _ _ p q
@@ -39,3 +35,7 @@ match-list-unique κs a r r′ s s′ p q = one-given _ r r′ _ _ p q
 pub judge-unique : (κs : Lfts 3) (a : Dens κs judge-kinds.ps) (r r′ : resT judge-kinds.r κs .Denot) (s s′ : AtExit (endedOf 3 judge-kinds.ps judge-kinds.r) κs)
     → judge.Post κs a r s → judge.Post κs a r′ s′ → r ≡ r′
 judge-unique κs a r r′ s s′ p q = p ∙ sym q
+
+pub length-met-unique : (κs : Lfts 0) (a : Dens κs length-met-kinds.ps) (r r′ : resT length-met-kinds.r κs .Denot) (s s′ : AtExit (endedOf 0 length-met-kinds.ps length-met-kinds.r) κs)
+    → length-met.Post κs a r s → length-met.Post κs a r′ s′ → r ≡ r′
+length-met-unique κs a r r′ s s′ p q = p ∙ sym q

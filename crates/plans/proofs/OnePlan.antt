@@ -36,7 +36,7 @@ planned-same t a b p p′ z z′ x y =
       places = λ n. absurd (n z);
     }
 
-refused-same : (p p′ : Plan) → p ≡ p′ → SamePlan p p′
+pub refused-same : (p p′ : Plan) → p ≡ p′ → SamePlan p p′
 refused-same p p′ e = record {
   number = ap (λ (x : Plan). x .number) e;
   low = ap (λ (x : Plan). x .low) e;

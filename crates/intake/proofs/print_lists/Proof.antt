@@ -23,13 +23,13 @@ part-length : (o : List ℕ) (f : ℕ) → f ≤ length o → length (take (leng
 part-length o f h = let d = length-drop f o in let t = length-take (length o - f) (drop f o) in omega arith
 
 abbrev Inv-loop : tie.InvT-loop
-Inv-loop template input first out₀ at₀ number₀ filled₀ out at number filled = Going input out₀ out at number filled
+Inv-loop template plan input first out₀ at₀ number₀ filled₀ out at number filled = Going input out₀ out at number filled
 
 abbrev μ-loop : tie.MeasureT-loop
-μ-loop template input first out₀ at₀ number₀ filled₀ out at number filled = length input - at
+μ-loop template plan input first out₀ at₀ number₀ filled₀ out at number filled = length input - at
 
 loop-holds : tie.Need-loop-holds Inv-loop μ-loop
-loop-holds c = record { inside = c .before .before .before .pre .0; few = omega arith; room = omega (arith, c .before .before .before .pre .2); same = refl }
+loop-holds c = record { inside = c .before .before .before .pre .1; few = omega arith; room = omega (arith, c .before .before .before .pre .3); same = refl }
 
 sub-answer-next : tie.Need-sub-answer-next Inv-loop μ-loop
 sub-answer-next c = omega (arith, c .loop .inv .room)
@@ -44,20 +44,20 @@ answer-next-requires : tie.Need-answer-next-requires Inv-loop μ-loop
 answer-next-requires c κs =
     let start = c .before .before .before .before .before in
     let p = part-length (c .before .loop .out) (c .before .loop .filled) (omega (arith, c .before .loop .inv .room)) in
-    record { inside = c .before .loop .inv .inside; number-short = omega (arith, c .before .loop .inv .few, c .before .loop .inv .inside, start .pre .1); room = omega (arith, c .before .loop .inv .room) }
+    (start .pre .0, record { inside = c .before .loop .inv .inside; number-short = omega (arith, c .before .loop .inv .few, c .before .loop .inv .inside, start .pre .2); room = omega (arith, c .before .loop .inv .room) })
 
 abbrev Buffer : tie.After-answer-next Inv-loop μ-loop → List ℕ
-Buffer c = putMid (c .before .before .loop .filled) (length (c .before .before .loop .out) - c .before .before .loop .filled) (c .before .before .loop .out) (c .answer-next .last .1 .1 .1 .1 .0)
+Buffer c = putMid (c .before .before .loop .filled) (length (c .before .before .loop .out) - c .before .before .loop .filled) (c .before .before .loop .out) (c .answer-next .last .1 .1 .1 .1 .1 .0)
 
 -- the buffer after a call is as long as before, and what is collected is within it
 as-long : (c : tie.After-answer-next Inv-loop μ-loop) → length (Buffer c) ≡ length (c .before .before .loop .out)
-as-long c = same-len-mid (c .before .before .loop .filled) (length (c .before .before .loop .out) - c .before .before .loop .filled) (c .before .before .loop .out) (c .answer-next .last .1 .1 .1 .1 .0) (c .answer-next .kept .1 .1 .1 .1 .0)
+as-long c = same-len-mid (c .before .before .loop .filled) (length (c .before .before .loop .out) - c .before .before .loop .filled) (c .before .before .loop .out) (c .answer-next .last .1 .1 .1 .1 .1 .0) (c .answer-next .kept .1 .1 .1 .1 .1 .0)
 
 end-within : (c : tie.After-answer-next Inv-loop μ-loop) → c .before .before .loop .filled + c .answer-next .result .wrote ≤ length (c .before .before .loop .out)
 end-within c =
     let room = c .before .before .loop .inv .room in
     let p = part-length (c .before .before .loop .out) (c .before .before .loop .filled) (omega arith) in
-    let w = turned-within _ _ _ _ _ _ _ _ (c .answer-next .ensures) (c .answer-next .kept .1 .1 .1 .1 .0) in
+    let w = turned-within _ _ _ _ _ _ _ _ (c .answer-next .ensures) (c .answer-next .kept .1 .1 .1 .1 .1 .0) in
     omega arith
 
 end-inside : (c : tie.After-answer-next Inv-loop μ-loop) → c .before .before .loop .filled + c .answer-next .result .wrote ≤ length (Buffer c)
@@ -93,7 +93,7 @@ add-number : tie.Need-add-number Inv-loop μ-loop
 add-number c =
     let at-loop = c .before .before .before .before .before .before .before in
     let start = at-loop .before .before .before .before in
-    omega (arith, at-loop .loop .inv .few, at-loop .loop .inv .inside, start .pre .1)
+    omega (arith, at-loop .loop .inv .few, at-loop .loop .inv .inside, start .pre .2)
 
 flushed-requires : tie.Need-flushed-requires Inv-loop μ-loop
 flushed-requires c κs =

@@ -34,7 +34,7 @@ returns-2 c =
     let at-if1 = at-read-list .before in
     let start = at-if1 .before .before .before .before in
     let a = start .args in
-    turn-faulty (a .template .now) (a .number) (a .input .now) (a .at) (start .pre .inside) (at-if1 .if1 .left) _ _ _ _ (at-read-list .read-list .ensures) (at-if2 .if2 .taken) _ _ _ (at-put-line .put-line .ensures)
+    turn-faulty (a .template .now) (a .number) (a .input .now) (a .at) (start .pre .1 .inside) (at-if1 .if1 .left) _ _ _ _ (at-read-list .read-list .ensures) (at-if2 .if2 .taken) _ _ _ (at-put-line .put-line .ensures)
 
 array-share-prefix-xs : tie.Need-array-share-prefix-xs
 array-share-prefix-xs c =
@@ -52,7 +52,7 @@ put-answer-requires c κs =
     let a = c .before .before .before .before .before .before .before .before .before .before in
     let short = listed-short _ _ _ _ _ _ (c .before .before .before .before .before .read-list .ensures) (c .before .before .before .if2 .left) in
     let l = length-take (c .before .before .before .before .before .read-list .result .n) (c .before .before .before .before .before .read-list .result .xs) in
-    record { number-short = a .pre .number-short; count-short = omega arith; room = a .pre .room }
+    (a .pre .0, record { number-short = a .pre .1 .number-short; count-short = omega arith; room = a .pre .1 .room })
 
 same-length-2 : tie.Need-same-length-2
 same-length-2 c = search needs
@@ -65,7 +65,7 @@ returns-3 c =
     let at-if1 = at-read-list .before in
     let start = at-if1 .before .before .before .before in
     let a = start .args in
-    turn-went (a .template .now) (a .number) (a .input .now) (a .at) (start .pre .inside) (at-if1 .if1 .left) _ _ _ _ (at-read-list .read-list .ensures) (at-if2 .if2 .left) _ _ _ (at-put-answer .put-answer .ensures)
+    turn-went (a .template .now) (a .number) (a .input .now) (a .at) (start .pre .1 .inside) (at-if1 .if1 .left) _ _ _ _ (at-read-list .read-list .ensures) (at-if2 .if2 .left) _ _ _ (at-put-answer .put-answer .ensures)
 
 pub answer-next-spec : {M : Type 1} → statement M
 answer-next-spec =
