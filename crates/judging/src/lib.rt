@@ -43,7 +43,7 @@ pub fn filling_passes(rows: &[u32; 32], k: u8, w: &[u8]) -> bool
     let mut e = 0;
     while e < w.len() {
         let x = w[e];
-        if !fresh(rows, b, members, e as u8, x) {
+        if !fresh(rows, b, members, e, x) {
             return false;
         }
         members = with(members, x);

@@ -19,7 +19,7 @@ use masks::with_place;
 use rows::may_take;
 
 // Whether x is a member of the block that may take e, and is not among the members yet.
-pub fn fresh(rows: &[u32; 32], b: Block, members: u32, e: u8, x: u8) -> bool
+pub fn fresh(rows: &[u32; 32], b: Block, members: u32, e: usize, x: u8) -> bool
     requires { ⌜ (b .first + b .k ≤ 32) × (e < 32) ⌝ }
     ensures { λ r. ⌜ Passing (Fresh (may (now (rows .entry))) b members e x) r ⌝ }
 {
@@ -80,7 +80,7 @@ fn piece_ends(rows: &[u32; 32], b: Block, all: u32, w: &[u8], from: usize, ends:
         found = mark(b, all, members, from, to, found);
         let x = w[to];
         if x != SPARE {
-            if !fresh(rows, b, members, to as u8, x) {
+            if !fresh(rows, b, members, to, x) {
                 return found;
             }
             members = with(members, x);

@@ -66,7 +66,14 @@ pub fn match_planned(template: &[u8], plan: Plan, list: &[i32], room: &mut [u8])
     }
     let members = plan.members;
     let rows = rows_of(template, &plan.places, members, list);
-    let f = first_witness(plan.kind, &plan.blocks, plan.count, members, &rows, n as u8);
+    let f = first_witness(
+        plan.kind,
+        &plan.blocks,
+        plan.count,
+        members,
+        &rows,
+        list.len() as u8,
+    );
     if !f.found {
         return NO_MATCH;
     }

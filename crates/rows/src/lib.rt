@@ -12,11 +12,11 @@ use masks::span;
 mod exchange; // rows and columns exchanged
 
 // Whether member m may take element e.
-pub fn may_take(rows: &[u32; 32], m: u8, e: u8) -> bool
+pub fn may_take(rows: &[u32; 32], m: u8, e: usize) -> bool
     requires { ⌜ (m < 32) × (e < 32) ⌝ }
     ensures { λ r. ⌜ r ≡ may (now (rows .entry)) m e ⌝ }
 {
-    has(rows[e as usize], m)
+    has(rows[e], m)
 }
 
 // The elements that member m may take, by turned rows.

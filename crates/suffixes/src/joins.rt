@@ -57,7 +57,7 @@ fn single(rows: &[u32; 32], m: u8, rest: Suffix, from: usize) -> Suffix
     requires { ⌜ (m < 32) × (from < 32) ⌝ }
     ensures { λ r. ⌜ Single (may (now (rows .entry))) m from rest r ⌝ }
 {
-    if !may_take(rows, m, from as u8) {
+    if !may_take(rows, m, from) {
         let blank = [SPARE; 32];
         return Suffix {
             there: false,

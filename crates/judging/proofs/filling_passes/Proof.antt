@@ -27,9 +27,6 @@ loop-holds c = (omega arith, full-start _ _ _)
 shared-slice-read-x : tie.Need-shared-slice-read-x Inv-loop μ-loop
 shared-slice-read-x c = omega arith
 
-cast-fresh : tie.Need-cast-fresh Inv-loop μ-loop
-cast-fresh c = omega arith
-
 fresh-requires : tie.Need-fresh-requires Inv-loop μ-loop
 fresh-requires c κs = (omega arith, omega arith)
 
@@ -62,7 +59,6 @@ filling-passes-spec =
     μ-loop
     loop-holds
     shared-slice-read-x
-    cast-fresh
     fresh-requires
     returns
     with-requires

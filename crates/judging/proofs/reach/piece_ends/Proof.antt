@@ -51,9 +51,6 @@ marked-here c =
 shared-slice-read-x : tie.Need-shared-slice-read-x Inv-loop μ-loop
 shared-slice-read-x c = omega arith
 
-cast-fresh : tie.Need-cast-fresh Inv-loop μ-loop
-cast-fresh c = omega arith
-
 fresh-requires : tie.Need-fresh-requires Inv-loop μ-loop
 fresh-requires c κs = (c .before .before .before .before .before .before .before .pre .0, omega arith)
 
@@ -108,7 +105,6 @@ piece-ends-spec =
     loop-holds
     mark-requires
     shared-slice-read-x
-    cast-fresh
     fresh-requires
     returns
     with-requires

@@ -9,9 +9,6 @@ use Rattle.suffixes.proofs.joins.single.Reads as reads
 use Rattle.suffixes.proofs.joins.single.Lts as lts
 use Rattle.rows.proofs.may_take.Reads as may-take-reads
 
-cast-may-take : tie.Need-cast-may-take
-cast-may-take c = search needs
-
 may-take-requires : tie.Need-may-take-requires
 may-take-requires c κs = search needs
 
@@ -27,4 +24,4 @@ returns-2 c = fits (sym (c .before .before .may-take .ensures) ∙ not-false _ (
 pub single-spec : {M : Type 1} → statement M
 single-spec =
     tie.close
-    (tie.spec cast-may-take may-take-requires returns array-write-w returns-2)
+    (tie.spec may-take-requires returns array-write-w returns-2)
