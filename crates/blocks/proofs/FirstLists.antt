@@ -1,5 +1,5 @@
 -- The first list of a kind, as `Best` says it, and tests that say whether something holds. Assumes nothing.
--- best-complete, best-found: where there is a list, one is found, and none comes before it. best-unique: one answer, every byte included.
+-- best-complete, best-found: where there is a list, one is found, and none comes before it. best-unique: one answer, every byte included. best-same: of what is equivalent.
 -- passing-true, passing-false: a test that is known. passing-same: of what is equivalent. passing-holds, passing-unique: what holds passes, and there is one answer.
 use mathlib.Core.Path.{_≡_, refl, sym, ap, _∙_}
 use mathlib.Core.Logic.{_⊎_, ⊎-elim}

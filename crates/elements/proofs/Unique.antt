@@ -15,8 +15,6 @@ use Rattle.elements.specs.Leaves.{LeafHere, BoundsHere}
 use Rattle.elements.specs.declared.leaf.Bounds.{Bounds}
 use Rattle.elements.proofs.refusal.Reads as refusal
 use Rattle.elements.proofs.refusal.Kinds as refusal-kinds
-use Rattle.elements.proofs.is_group.Reads as is-group
-use Rattle.elements.proofs.is_group.Kinds as is-group-kinds
 use Rattle.elements.proofs.count_fault.Reads as count-fault
 use Rattle.elements.proofs.count_fault.Kinds as count-fault-kinds
 use Rattle.elements.proofs.head_end.Reads as head-end
@@ -58,10 +56,6 @@ noted-same Tells Tells′ t o r r′ (noted a e z k f) (noted a′ e′ z′ k�
 pub refusal-unique : (κs : Lfts 0) (a : Dens κs refusal-kinds.ps) (r r′ : resT refusal-kinds.r κs .Denot) (s s′ : AtExit (endedOf 0 refusal-kinds.ps refusal-kinds.r) κs)
     → refusal.Post κs a r s → refusal.Post κs a r′ s′ → r ≡ r′
 refusal-unique κs a r r′ s s′ p q = p ∙ sym q
-
-pub is-group-unique : (κs : Lfts 0) (a : Dens κs is-group-kinds.ps) (r r′ : resT is-group-kinds.r κs .Denot) (s s′ : AtExit (endedOf 0 is-group-kinds.ps is-group-kinds.r) κs)
-    → is-group.Post κs a r s → is-group.Post κs a r′ s′ → r ≡ r′
-is-group-unique κs a r r′ s s′ p q = p ∙ sym q
 
 pub count-fault-unique : (κs : Lfts 1) (a : Dens κs count-fault-kinds.ps) (r r′ : resT count-fault-kinds.r κs .Denot) (s s′ : AtExit (endedOf 1 count-fault-kinds.ps count-fault-kinds.r) κs)
     → count-fault.Post κs a r s → count-fault.Post κs a r′ s′ → r ≡ r′

@@ -16,7 +16,8 @@ pub struct Bounds {
     pub next: usize,
 }
 
-// The bounds of the leaf at `at`. Here alone its bytes are decoded: 01 is the range of its integer alone, 03 that of all integers.
+// The bounds of the leaf at `at`, which was accepted: 01 is the range of its integer alone, 03 that of all integers. Whoever asks what a leaf
+// matches reads it here.
 pub fn bounds_at(t: &[u8], at: usize) -> Bounds
     requires { ⌜ LeafHere (now t) at ⌝ }
     ensures { λ r. ⌜ BoundsHere (now (t .entry)) at (r .lower) (r .upper) (r .next) ⌝ }

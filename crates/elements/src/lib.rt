@@ -44,7 +44,7 @@ pub fn refusal(code: u8) -> usize
 }
 
 // Whether a record of this kind has members: a list or a complement.
-pub fn is_group(kind: u8) -> bool
+fn is_group(kind: u8) -> bool
     ensures { λ r. ⌜ r ≡ groupKind kind ⌝ }
 {
     (kind == LIST) | (kind == COMPLEMENT)

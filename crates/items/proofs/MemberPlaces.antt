@@ -1,4 +1,5 @@
 -- What a scan notes, in general, and the places of the members one after another. Assumes nothing.
+-- noted-as == the same of an equal reading; stopped-as, stopped-on == a refusal, as an answer says it, whatever is to be said of it
 -- map-noted == the same scan, of what was read in another form; noted-told == the same told in another way
 -- placed-none, placed-one, placed-then == no member, one member, more members after others
 use mathlib.Core.Path.{_≡_, refl, sym, ap, _∙_, subst}

@@ -1,4 +1,4 @@
 -- The definitions of `matcher`. What it promises is said by the definitions of `matching`.
--- Contract == what the private functions say
+-- Contract == what the private function says
 -- Assumes nothing: these are definitions.
 pub mod Contract
