@@ -3,23 +3,20 @@
 use mathlib.Core.Path.{_≡_, refl, sym, ap, ap₂, _∙_}
 use mathlib.Core.Bool.{Bool, false, not, _&&_, _||_, or-false}
 use mathlib.Core.List.{List, [], _∷_}
-use mathlib.Core.Logic.{⊎-elim}
-use Prim.Native.Nat.{ℕ, _+_, _-_, _*_, _≤_, _<_, min}
+use Prim.Native.Nat.{ℕ, _+_, _-_, _*_, _≤_, min}
 use native.Mathlib.Omega.{arith}
-use lib.Dec.{leb, eqb}
 use lib.IntN.{ℤ}
 use lib.Signed.{leZ, _≤ℤ_}
 use lib.ListN.{length}
-use borrow.Author.Tests.{le-leb, lt-leb, eq-eqb, ne-eqb}
 use Rattle.ranges.specs.Spans.{Span, span, least, greatest, holds, Ascending, joinAll, gaps, edges}
 use Rattle.ranges.proofs.JoinsAndGaps.{of-rank, ascending-joined, holds-joined, edges-joined, proper-of, holds-gaps, ascending-gaps, edges-gaps, length-edges, length-edges-above, unique}
 use Rattle.grammar.specs.Element.{Elem, leaf, oneOf, noneOf, Elems, none, more, leaves, leavesAll}
-use Rattle.grammar.specs.Leaf.{Leaf, single, range, any}
+use Rattle.grammar.specs.Leaf.{Leaf, single, range, any, lowerOf, upperOf}
 use Rattle.grammar.specs.Matches.{matchesBy, leafMatches, matches, anyMatches}
+use Rattle.grammar.proofs.LeafBounds.{leaf-between}
 use Rattle.integers.specs.Integer.{Word}
 use Rattle.integers.specs.Rank.{rank}
-use Rattle.facts.proofs.Cases.{below}
-use Rattle.integers.proofs.Ranks.{low, rank-word, low-leZ, rank-leZ, low-eqZ}
+use Rattle.integers.proofs.Ranks.{low, rank-word}
 use Rattle.forms.specs.Matched.{leafRanges, rangesOf, rangesOfAll}
 use Rattle.forms.proofs.Accepts.{GoodLeaf, Good, GoodAll}
 
@@ -29,18 +26,6 @@ pub record SetOf (rs : List Span) (f : ℤ → Bool) (c : ℕ) : Type 0 where
   pub few : edges rs ≤ c
 
 -- ---- leaves
-
-one-integer : (a x : ℕ) → ((leb a x && leb x a) || false) ≡ eqb a x
-one-integer a x =
-    ⊎-elim
-    (λ (h : x < a). rw (lt-leb a x h) (sym (ne-eqb a x (λ e. omega arith))))
-    (λ (h : a ≤ x).
-    rw (le-leb a x h)
-    (⊎-elim
-    (λ (k : a < x). rw (lt-leb x a k) (sym (ne-eqb a x (λ e. omega arith))))
-    (λ (k : x ≤ a). rw (le-leb x a k) (sym (eq-eqb a x (omega arith))))
-    (below a x)))
-    (below x a)
 
 two-edges : (a b : ℕ) → min a 1 + (min (4294967295 - b) 1 + 0) ≤ 2
 two-edges a b = omega arith
@@ -53,20 +38,20 @@ ascending-one a b p q o =
 ≤ℤ-same a p = of-rank a a (low a p) (low a p) (omega arith)
 
 pub leaf-set : (l : Leaf) → GoodLeaf l → SetOf (leafRanges l) (leafMatches l) 2
-unfolding leafMatches
+unfolding lowerOf upperOf
 leaf-set (single z) g = record {
   ascending = ascending-one z z g g (≤ℤ-same z g);
-  right = λ x w. rw (rank-leZ z x g w, rank-leZ x z w g, low-eqZ z x (low z g) (low x w)) (one-integer (rank z) (rank x));
+  right = λ x w. or-false (leZ z x && leZ x z) ∙ sym (leaf-between (single z) x w);
   few = two-edges (rank z) (rank z);
 }
 leaf-set (range a b) g = record {
   ascending = ascending-one a b (g .0) (g .1) (g .2);
-  right = λ x w. or-false (leZ a x && leZ x b);
+  right = λ x w. or-false (leZ a x && leZ x b) ∙ sym (leaf-between (range a b) x w);
   few = two-edges (rank a) (rank b);
 }
 leaf-set any g = record {
   ascending = ascending-one least greatest (omega arith) (omega arith) (of-rank least greatest (omega arith) tt (omega arith));
-  right = λ x w. rw (low-leZ least x (omega arith) (low x w), low-leZ x greatest (low x w) tt, le-leb 0 (rank x) (omega arith), le-leb (rank x) 4294967295 (omega (arith, rank-word x w)));
+  right = λ x w. or-false (leZ least x && leZ x greatest) ∙ sym (leaf-between any x w);
   few = two-edges 0 4294967295;
 }
 
