@@ -17,7 +17,7 @@ use Rattle.grammar.specs.Reading.{uncounted, opened, elem}
 use Rattle.grammar.specs.Template.{noStar, grouped, setOf, between, membersOfGroup, membersOf}
 use Rattle.grammar.specs.Whole.{clashes, numbered, putMember, thenMembers, member, members, contents, bodyHere, templateHere, readTemplate}
 use Rattle.grammar.specs.Blocks.{blockOfGroup, blocksOf, bodyKind, StandsAt, Standing}
-use Rattle.plans.specs.Plans.{noPlan, Planned, PlanOf, refusedPlan, aPlan}
+use Rattle.plans.specs.Plans.{Planned, PlanOf, refusedPlan, aPlan}
 use Rattle.plans.specs.declared.Plan.{Plan}
 
 bytes : List ℕ
@@ -43,7 +43,10 @@ set-planned =
       stands = (record { inside = omega arith; leaves = 1; rest = 0x01 ∷ 1 ∷ 0 ∷ 0 ∷ 0 ∷ []; reads = refl }, (record { inside = omega arith; leaves = 1; rest = []; reads = refl }, tt));
     })
 
--- the empty template is 3
-none-planned : PlanOf [] (noPlan 3)
-unfolding readTemplate templateHere bodyHere ended
+-- the empty template is refused with 3, and all else in its plan is 0
+plan-of-none : Plan
+plan-of-none = record { number = 3; low = 0; high = 0; kind = 0; count = 0; members = 0; blocks = replicate 32 0; places = replicate 32 0 }
+
+none-planned : PlanOf [] plan-of-none
+unfolding plan-of-none readTemplate templateHere bodyHere ended
 none-planned = refusedPlan 3 refl (omega arith) refl
