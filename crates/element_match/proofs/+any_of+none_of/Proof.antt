@@ -67,6 +67,10 @@ any-of-member t c =
     (λ v. moved _ _ _ _ _ _ (v .4) (group-member _ _ _ _ _ _ true (last-kind _ _ _ (any-of-here t (c .before .before)) (v .0 .left) (v .1 .left)) (v .3 .ensures))) u)
     (c .if1 .came)
 
+any-of-loop-again : (t : ℕ) → any-of-lts.Need-loop-again (calls t) (any-of-at t) any-of.Post any-of-Inv-loop any-of-μ-loop
+any-of-loop-again t c =
+    step _ _ _ _ _ _ _ (c .before .before .before .loop-test .taken) (any-of-member t (c .before)) false _ _ (c .before .before .before .before .loop .hit) (c .before .before .before .before .loop .inv)
+
 -- ---- none_of
 
 abbrev none-of-Inv-loop : none-of-lts.InvT-loop
@@ -94,6 +98,10 @@ none-of-member t c =
     (λ v. moved _ _ _ _ _ _ (v .4) (group-member _ _ _ _ _ _ true (last-kind _ _ _ (none-of-here t (c .before .before)) (v .0 .left) (v .1 .left)) (v .3 .ensures))) u)
     (c .if1 .came)
 
+none-of-loop-again : (t : ℕ) → none-of-lts.Need-loop-again (calls t) (none-of-at t) none-of.Post none-of-Inv-loop none-of-μ-loop
+none-of-loop-again t c =
+    step _ _ _ _ _ _ _ (c .before .before .before .loop-test .taken) (none-of-member t (c .before)) true _ _ (c .before .before .before .before .loop .none) (c .before .before .before .before .loop .inv)
+
 -- ---- both
 
 pub +any-of+none-of-spec : {M : Type 1} → statement M
@@ -119,7 +127,7 @@ pub +any-of+none-of-spec : {M : Type 1} → statement M
     -- sub-more, loop-less, loop-again, returns
     (λ c. c .before .before .before .loop-test .taken)
     (λ c. omega (arith, c .before .before .before .loop-test .taken))
-    (λ c. step _ _ _ _ _ _ _ (c .before .before .before .loop-test .taken) (any-of-member t (c .before)) false _ _ (c .before .before .before .before .loop .hit) (c .before .before .before .before .loop .inv))
+    (any-of-loop-again t)
     (λ c. walk-plain false _ _ _ _ _ _ _ (c .before .before .before .fits .x) (done false _ _ _ _ _ _ _ _ (omega (arith, c .loop-test .left)) (c .before .loop .inv))))
     λ t. none-of-lts.spec (calls t) (none-of-at t) none-of.Post none-of-Inv-loop none-of-μ-loop
     -- loop-holds, shared-slice-read-kind, leaf-hit-requires
@@ -143,5 +151,5 @@ pub +any-of+none-of-spec : {M : Type 1} → statement M
     -- sub-more, loop-less, loop-again, returns
     (λ c. c .before .before .before .loop-test .taken)
     (λ c. omega (arith, c .before .before .before .loop-test .taken))
-    (λ c. step _ _ _ _ _ _ _ (c .before .before .before .loop-test .taken) (none-of-member t (c .before)) true _ _ (c .before .before .before .before .loop .none) (c .before .before .before .before .loop .inv))
+    (none-of-loop-again t)
     (λ c. walk-plain true _ _ _ _ _ _ _ (c .before .before .before .fits .x) (done true _ _ _ _ _ _ _ _ (omega (arith, c .loop-test .left)) (c .before .loop .inv)))
