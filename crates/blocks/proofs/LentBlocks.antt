@@ -94,28 +94,26 @@ unfolding lent
 end-past may zero from to w c = c
 end-past may (suc n) from to w c = end-past may n from to w (none-cuts may (lent n []) from to w c)
 
-pub cuts-lent : (may : ℕ → ℕ → Bool) (n : ℕ) (vs : List ℕ) (from to : ℕ) (w : List ℕ) → Cuts may (blocksIn (take n vs)) from to w → Cuts may (lent n vs) from to w
-unfolding Cuts lent blocksIn
-cuts-lent may zero vs from to w c = c
-cuts-lent may (suc n) [] from to w c = past-end may (suc n) from to w c
-cuts-lent may (suc n) (v ∷ vs) from to w c =
+-- where all that the blocks bs cut is cut by bs′, a block before both changes nothing
+cuts-tail : (may : ℕ → ℕ → Bool) (b : Block) (bs bs′ : List Block) (from to : ℕ) (w : List ℕ) → ((mid : ℕ) (v : List ℕ) → Cuts may bs mid to v → Cuts may bs′ mid to v) → Cuts may (b ∷ bs) from to w → Cuts may (b ∷ bs′) from to w
+unfolding Cuts
+cuts-tail may b bs bs′ from to w f c =
     let j = c .parts in
     record {
       mid = c .mid;
       after = c .after;
       inside = c .inside;
-      parts = record { left = j .left; right = j .right; whole = j .whole; onLeft = j .onLeft; onRight = cuts-lent may n vs (c .mid) to (j .right) (j .onRight) };
+      parts = record { left = j .left; right = j .right; whole = j .whole; onLeft = j .onLeft; onRight = f (c .mid) (j .right) (j .onRight) };
     }
 
+pub cuts-lent : (may : ℕ → ℕ → Bool) (n : ℕ) (vs : List ℕ) (from to : ℕ) (w : List ℕ) → Cuts may (blocksIn (take n vs)) from to w → Cuts may (lent n vs) from to w
+unfolding lent blocksIn
+cuts-lent may zero vs from to w c = c
+cuts-lent may (suc n) [] from to w c = past-end may (suc n) from to w c
+cuts-lent may (suc n) (v ∷ vs) from to w c = cuts-tail may (blockIn v) (blocksIn (take n vs)) (lent n vs) from to w (λ mid u. cuts-lent may n vs mid to u) c
+
 pub lent-cuts : (may : ℕ → ℕ → Bool) (n : ℕ) (vs : List ℕ) (from to : ℕ) (w : List ℕ) → Cuts may (lent n vs) from to w → Cuts may (blocksIn (take n vs)) from to w
-unfolding Cuts lent blocksIn
+unfolding lent blocksIn
 lent-cuts may zero vs from to w c = c
 lent-cuts may (suc n) [] from to w c = end-past may (suc n) from to w c
-lent-cuts may (suc n) (v ∷ vs) from to w c =
-    let j = c .parts in
-    record {
-      mid = c .mid;
-      after = c .after;
-      inside = c .inside;
-      parts = record { left = j .left; right = j .right; whole = j .whole; onLeft = j .onLeft; onRight = lent-cuts may n vs (c .mid) to (j .right) (j .onRight) };
-    }
+lent-cuts may (suc n) (v ∷ vs) from to w c = cuts-tail may (blockIn v) (lent n vs) (blocksIn (take n vs)) from to w (λ mid u. lent-cuts may n vs mid to u) c
