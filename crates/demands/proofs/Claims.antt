@@ -1,17 +1,18 @@
--- The demands, the table of judged examples and the claims about normal forms, proved: each cites claims and laws of the crates below, and of
--- `NormalForms`. Assumes nothing.
-use mathlib.Core.Path.{_≡_, refl, sym, ap, _∙_}
-use mathlib.Core.Bool.{Bool, true, false, cond}
+-- The demands, the table of judged examples and the other claims, proved: each number of a call has its outcome (`Outcomes`), and each field of a
+-- demand is read off it; what stands in the room after a 0 by the laws of `matching` and `NormalForms`. Assumes nothing.
+use mathlib.Core.Path.{_≡_, refl, sym, ap, subst, _∙_}
+use mathlib.Core.Bool.{Bool, true, false}
 use mathlib.Core.List.{List, [], _++_}
+use mathlib.Core.Logic.{_⊎_, inl, inr}
 use Prim.Native.Nat.{ℕ, _≤_, _<_}
 use native.Mathlib.Omega.{arith}
-use borrow.Author.Tests.{lt-ltb, le-ltb}
-use lib.Dec.{ltb}
 use lib.ListN.{length, take, drop}
+use lib.Seq.{take-at}
 use lib.IntN.{ℤ}
 use Rattle.integers.specs.Integer.{signed, intAt, intBytes}
-use Rattle.facts.proofs.Cases.{by-test}
 use Rattle.facts.specs.Counting.{between, cnt}
+use Rattle.facts.proofs.Cases.{by-test}
+use Rattle.byte_order.specs.ByteOrder.{First as FirstOf}
 use Rattle.blocks.specs.Assignment.{allOnce}
 use Rattle.grammar.specs.Element.{Elem}
 use Rattle.grammar.specs.Leaf.{Leaf, singleHead, rangeHead, leafHead}
@@ -20,177 +21,327 @@ use Rattle.grammar.specs.Record.{countFault, boundsFault, groupHead, head}
 use Rattle.grammar.specs.Read.{Read, refuse, got, ended, mapRead}
 use Rattle.grammar.specs.Reading.{uncounted, putFirst, thenMore, many, closed, tooDeep, opened, elem, readElement}
 use Rattle.grammar.specs.Whole.{starHere, numbered, putMember, thenMembers, thenStar, putItem, thenItems, clashes, member, members, permutationHere, item, items, contents, bodyHere, templateHere, readTemplate}
-use Rattle.grammar.proofs.RefusalNumbers.{Cases, isRefused, isRead, read-cases}
+use Rattle.grammar.proofs.RefusalNumbers.{Cases, isRefused, isRead, read-cases, element-cases, template-row, element-row, element-not-nine}
 use Rattle.grammar.specs.Matches.{matchesBy, leafMatches}
 use Rattle.grammar.specs.Members.{memberHits}
-use Rattle.matching.specs.Obeys.{rightBytes, noneTwice, allSpare, withinBlock, starMet, groupTakes, itemTakes, someCut, cuts, bodyMet, lengthMet, obeysBy, obeys}
+use Rattle.matching.specs.Obeys.{rightBytes, noneTwice, allSpare, withinBlock, starMet, groupTakes, itemTakes, someCut, cuts, bodyMet, lengthMet, obeysBy, obeys, Obeys}
 use Rattle.matching.specs.Search.{Maybe, nothing, just, put, orElse, tryEach, firstOf, from, membersCount, firstWitness}
-use Rattle.matching.specs.Answer.{Given, given, written, matchRead, matchAnswer, judgeRead, judgeAnswer}
-use Rattle.matching.proofs.Answers.{reads, judges, few-members, matched-where, unmatched-where, refused-where, judged-where}
-use Rattle.matching.proofs.FirstWitness.{first-witness, obeys-size}
+use Rattle.matching.specs.Answer.{given, written, matchRead, matchAnswer, judgeAnswer, Taken}
+use Rattle.matching.proofs.Answers.{few-members, matched-where, unmatched-where, judged-where}
+use Rattle.matching.proofs.FirstWitness.{first-witness, none-witness, obeys-size}
 use Rattle.ranges.specs.Spans.{joinAll, join, gaps, gapsFrom}
 use Rattle.forms.specs.Matched.{rangesOf}
 use Rattle.forms.specs.Form.{recordOf, records, matchedForm, unmatchedForm, form, normalForm}
 use Rattle.forms.specs.Answer.{answer, placed, answerTo, normalised}
 use Rattle.forms.proofs.Accepts.{accepted-facts}
 use Rattle.forms.proofs.Sets.{elem-set}
-use Rattle.demands.proofs.NormalForms.{side-of, widest-of, length-normalForm, form-placed, reads-back, same-integers-same-form, same-form-same-integers, form-of-form, leaves-of-form}
-use Rattle.demands.specs.Claims.{Kept, MatchGiven, JudgeGiven, NormalGiven, First, Second, Third, AsJudged, Maximal, Lengths, JudgeAgrees, SomeIsMatched}
 use Rattle.demands.specs.Judged.{sameBytes, gives, forms, comesOut, allComeOut, judged}
-use Rattle.demands.proofs.MatcherAndJudge.{behind, passed}
-use lib.Seq.{take-at}
+use Rattle.demands.specs.NormalForms.{Accepted, SameIntegers}
+use Rattle.demands.specs.Calls.{MatchCall, JudgeCall, NormalCall}
+use Rattle.demands.specs.Claims.{Accepts, Refused, RefusedAlone, Kept, ListRows, MatchGiven, JudgeGiven, NormalGiven, MatchedExactly, JudgedExactly, FormCall, FormOf, MaximalRanges, First, Second, Third, Answered, JudgeAgrees, SomeIsMatched, AsJudged}
+use Rattle.demands.proofs.Calls.{match-answer, judge-answer, normal-answer, match-called, judge-called, normal-called}
+use Rattle.demands.proofs.NormalForms.{side-of, accepted-side, widest-of, length-normalForm, form-placed, same-integers-same-form, same-form-same-integers, form-of-form}
+use Rattle.demands.proofs.Outcomes.{ListOutcome, tooLong, tooMany, unfit, rejected, decided, MatchOutcome, left, wrote, match-outcome, judge-outcome, NormalOutcome, declined, roomShort, formed, normal-outcome}
 
--- ---- demand 1: the matcher
+-- ---- demand 1: the rows of the table that matcher and judge share
 
--- a number above 0 and the room as it was, or 0 and a witness in front of what it does not cover
-data Shape (xs : List ℤ) (room : List ℕ) (g : Given) : Type 0 where
-  left : (r : ℕ) → g ≡ given r room → 0 < r → Shape xs room g
-  wrote : (w : List ℕ) → length w ≡ length xs → g ≡ given 0 (w ++ drop (length xs) room) → Shape xs room g
+number-same : {A : Type 0} (o : Read A) (n m : ℕ) → o ≡ refuse n → o ≡ refuse m → n ≡ m
+number-same o n m p q = cc
 
-shape : (t : List ℕ) (xs : List ℤ) (room : List ℕ) → Shape xs room (matchAnswer t xs room)
-unfolding matchAnswer matchRead written
-shape t xs room =
-    by-test (ltb 4096 (length t))
-    (λ e. left 2 (rw e) (omega arith))
-    (λ e. by-test (ltb 32 (length xs))
-    (λ f. left 11 (rw (e, f)) (omega arith))
-    (λ f. by-test (ltb (length room) (length xs))
-    (λ g. left 12 (rw (e, f, g)) (omega arith))
-    (λ g. rw (e, f, g) (go (read-cases t)))))
-  where
-    found : (s : Template Leaf) (m : Maybe) → readTemplate leafHead t ≡ got s [] → firstWitness s xs ≡ m → Shape xs room (written m room)
-    found s nothing q e = left 1 refl (omega arith)
-    found s (just w) q e =
-        let z = obeys-size s xs w (first-witness s xs w (few-members t s q) e .holds) in
-        wrote w z (ap (λ d. given 0 (w ++ drop d room)) z)
+not-both : {A : Type 0} (o : Read A) (n : ℕ) (a : A) → o ≡ refuse n → o ≡ got a [] → ⊥
+not-both o n a p q = let z : _≡_ {A = ℕ} 0 1 = cc in omega arith
 
-    go : Cases (readTemplate leafHead t) → Shape xs room (matchRead (readTemplate leafHead t) xs room)
-    go (isRefused r e p) = rw e (left r refl p)
-    go (isRead s e) = rw e (found s (firstWitness s xs) e refl)
+element-same : (t : List ℕ) (e e′ : Elem Leaf) → Accepted t e → Accepted t e′ → e ≡ e′
+element-same t e e′ p q = cc
 
-number : (r n : ℕ) (a b : List ℕ) → given r a ≡ given n b → r ≡ n
-number r n a b e = cc
+module _ (t : List ℕ) (xs : List ℤ) (Fit : Type 0) (k r : ℕ) (high : 12 ≤ k) where
+  list-rows : ListOutcome t xs Fit k r → ListRows t xs Fit r
+  list-rows (tooLong a z) = record {
+    two = (λ _. a, λ _. z);
+    eleven = (λ e. absurd (omega arith), λ b. absurd (omega arith));
+    refused = λ n p q. (λ e. absurd (omega arith), λ b. absurd (omega arith));
+    answered = (λ e. absurd (omega arith), λ b. absurd (omega arith));
+  }
+  list-rows (tooMany a b z) = record {
+    two = (λ e. absurd (omega arith), λ c. absurd (omega arith));
+    eleven = (λ _. (a, b), λ _. z);
+    refused = λ n p q. (λ e. absurd (omega arith), λ c. absurd (omega arith));
+    answered = (λ e. absurd (omega arith), λ c. absurd (omega arith));
+  }
+  list-rows (unfit taken f z) = record {
+    two = (λ e. absurd (omega arith), λ c. absurd (omega arith));
+    eleven = (λ e. absurd (omega arith), λ c. absurd (omega arith));
+    refused = λ n p q. (λ e. absurd (omega arith), λ c. absurd (f (c .1)));
+    answered = (λ e. absurd (omega arith), λ c. absurd (f (c .1)));
+  }
+  list-rows (rejected taken f m refusal low most z) = record {
+    two = (λ e. absurd (omega arith), λ c. absurd (omega arith));
+    eleven = (λ e. absurd (omega arith), λ c. absurd (omega arith));
+    refused = λ n p q. (
+      λ e. (taken, f, subst (Refused t) (sym z ∙ e) refusal),
+      λ c. z ∙ number-same (readTemplate leafHead t) m n refusal (c .2),
+    );
+    answered = (λ e. absurd (omega arith), λ c. absurd (not-both (readTemplate leafHead t) m (c .2 .0) refusal (c .2 .1)));
+  }
+  list-rows (decided taken f s accepted low) = record {
+    two = (λ e. absurd (omega arith), λ c. absurd (omega arith));
+    eleven = (λ e. absurd (omega arith), λ c. absurd (omega arith));
+    refused = λ n p q. (λ e. absurd (omega arith), λ c. absurd (not-both (readTemplate leafHead t) n s (c .2) accepted));
+    answered = (λ _. (taken, f, (s, accepted)), λ _. low);
+  }
 
-module _ (t : List ℕ) (xs : List ℤ) (room : List ℕ) (r : ℕ) (after : List ℕ) (h : matchAnswer t xs room ≡ given r after) where
-  match-given : MatchGiven t xs room r after
-  unfolding matchAnswer matchRead written
-  match-given = record {
-    two = λ a. number r 2 after room (sym h ∙ rw (lt-ltb 4096 (length t) a));
-    eleven = λ a b. number r 11 after room (sym h ∙ rw (le-ltb 4096 (length t) a, lt-ltb 32 (length xs) b));
-    twelve = λ a b c. number r 12 after room (sym h ∙ rw (le-ltb 4096 (length t) a, le-ltb 32 (length xs) b, lt-ltb (length room) (length xs) c));
-    scanned = λ a b c n q. number r n after room (sym h ∙ refused-where t xs room n (a, b) c q);
-    answered = λ a b c s q. zero-or-one (firstWitness s xs) (sym h ∙ reads t xs room (a, b) c ∙ ap (λ o. matchRead o xs room) q);
-    written = λ z. kept z (shape t xs room);
-    untouched = λ n. same n (shape t xs room);
+-- the number of the row between 11 and the scan
+module _ (t : List ℕ) (xs : List ℤ) (Fit : Type 0) (k r : ℕ) (high : 12 ≤ k) where
+  between-row : ListOutcome t xs Fit k r → (r ≡ k → Taken t xs × (Fit → ⊥)) × (Taken t xs → (Fit → ⊥) → r ≡ k)
+  between-row (tooLong a z) = (λ e. absurd (omega arith), λ c f. absurd (omega arith))
+  between-row (tooMany a b z) = (λ e. absurd (omega arith), λ c f. absurd (omega arith))
+  between-row (unfit taken f z) = (λ _. (taken, f), λ _ _. z)
+  between-row (rejected taken f m refusal low most z) = (λ e. absurd (omega arith), λ c g. absurd (g f))
+  between-row (decided taken f s accepted low) = (λ e. absurd (omega arith), λ c g. absurd (g f))
+
+  list-numbers : ListOutcome t xs Fit k r → (r ≤ k) × ((r ≡ k → ⊥) → r ≤ 11)
+  list-numbers (tooLong a z) = (omega arith, λ _. omega arith)
+  list-numbers (tooMany a b z) = (omega arith, λ _. omega arith)
+  list-numbers (unfit taken f z) = (omega arith, λ n. absurd (n z))
+  list-numbers (rejected taken f m refusal low most z) = (omega arith, λ _. omega arith)
+  list-numbers (decided taken f s accepted low) = (omega arith, λ _. omega arith)
+
+-- ---- demand 1: the entry points
+
+module _ (t : List ℕ) (xs : List ℤ) (room : List ℕ) (r : ℕ) (after : List ℕ) where
+  list-outcome : MatchOutcome t xs room r after → ListOutcome t xs (length xs ≤ length room) 12 r
+  list-outcome (left e p o) = o
+  list-outcome (wrote k l s q w z e a) = decided k l s q (omega arith)
+
+  match-given : MatchCall t xs room r after → MatchGiven t xs room r after
+  match-given c =
+      let o = match-outcome t xs room r after (match-answer t xs room r after c) in
+      let u = list-outcome o in
+      let b = between-row t xs (length xs ≤ length room) 12 r (omega arith) u in
+      record {
+        rows = list-rows t xs (length xs ≤ length room) 12 r (omega arith) u;
+        twelve = (λ e. (b .0 e .0, short (b .0 e .1)), λ p. b .1 (p .0) (λ l. long (p .1) l));
+        numbers = list-numbers t xs (length xs ≤ length room) 12 r (omega arith) u .0;
+        written = λ z. kept z o;
+        untouched = λ n. same n o;
+      }
+    where
+      short : (length xs ≤ length room → ⊥) → length room < length xs
+      short n = omega (arith, n)
+
+      long : length room < length xs → length xs ≤ length room → ⊥
+      long p l = omega arith
+
+      kept : r ≡ 0 → MatchOutcome t xs room r after → Kept room after (length xs)
+      kept z (left e p o) = absurd (omega arith)
+      kept z (wrote k l s q w size e a) = record { bytes = w; count = size; rest = a }
+
+      same : (r ≡ 0 → ⊥) → MatchOutcome t xs room r after → after ≡ room
+      same n (left e p o) = e
+      same n (wrote k l s q w size e a) = absurd (n e)
+
+module _ (t : List ℕ) (xs : List ℤ) (w : List ℕ) (r : ℕ) where
+  judge-given : JudgeCall t xs w r → JudgeGiven t xs w r
+  judge-given c =
+      let u = judge-outcome t xs w r (judge-answer t xs w r c) in
+      let b = between-row t xs (length w ≡ length xs) 13 r (omega arith) u in
+      let n = list-numbers t xs (length w ≡ length xs) 13 r (omega arith) u in
+      record {
+        rows = list-rows t xs (length w ≡ length xs) 13 r (omega arith) u;
+        thirteen = (b .0, λ p. b .1 (p .0) (p .1));
+        numbers = (n .0, λ e. never e (n .1));
+      }
+    where
+      never : r ≡ 12 → ((r ≡ 13 → ⊥) → r ≤ 11) → ⊥
+      never e h = let q = h (λ f. omega arith) in omega arith
+
+module _ (t room : List ℕ) (n l : ℕ) (after : List ℕ) where
+  given-of : NormalOutcome t room n l after → NormalGiven t room n l after
+  given-of (declined r q least most nine z k a) = record {
+    refused = λ m p o. (λ e. subst (RefusedAlone t) (sym z ∙ e) q, λ c. z ∙ number-same (readElement leafHead t) r m q c);
+    twelve = (λ e. absurd (omega arith), λ c. absurd (not-both (readElement leafHead t) r (c .0) q (c .1)));
+    done = (λ e. absurd (omega arith), λ c. absurd (not-both (readElement leafHead t) r (c .0) q (c .1)));
+    numbers = (omega arith, λ e. omega arith, λ e. nine (sym z ∙ e), λ e. omega arith);
+    written = λ e f c. absurd (omega arith);
+    untouched = λ _. (k, a);
+  }
+  given-of (roomShort e q b z k a) = record {
+    refused = λ m p o. (λ f. absurd (omega arith), λ c. absurd (not-both (readElement leafHead t) m e c q));
+    twelve = (λ _. (e, q, b), λ _. z);
+    done = (λ f. absurd (omega arith), λ c. absurd (wide (c .0) (c .1) (c .2)));
+    numbers = (omega arith, λ f. omega arith, λ f. omega arith, λ f. omega arith);
+    written = λ f g c. absurd (omega arith);
+    untouched = λ _. (k, a);
   }
     where
-      zero-or-one : (m : Maybe) → given r after ≡ written m room → r ≤ 1
-      zero-or-one nothing e = let z = number r 1 after room e in omega arith
-      zero-or-one (just w) e = let z = number r 0 after _ e in omega arith
-
-      kept : r ≡ 0 → Shape xs room (matchAnswer t xs room) → Kept room after (length xs)
-      kept z (left n e p) = let q = number r n after room (sym h ∙ e) in absurd (omega arith)
-      kept z (wrote w l e) = let q : given r after ≡ given 0 (w ++ drop (length xs) room) = sym h ∙ e in record { bytes = w; count = l; rest = cc }
-
-      same : (r ≡ 0 → ⊥) → Shape xs room (matchAnswer t xs room) → after ≡ room
-      same n (left k e p) = let q : given r after ≡ given k room = sym h ∙ e in cc
-      same n (wrote w l e) = absurd (n (number r 0 after _ (sym h ∙ e)))
-
--- ---- demand 1: the judge
-
-module _ (t : List ℕ) (xs : List ℤ) (w : List ℕ) where
-  judge-given : JudgeGiven t xs w (judgeAnswer t xs w)
-  unfolding judgeAnswer judgeRead
-  judge-given = record {
-    two = λ a. rw (lt-ltb 4096 (length t) a);
-    eleven = λ a b. rw (le-ltb 4096 (length t) a, lt-ltb 32 (length xs) b);
-    thirteen = λ a b c. rw (le-ltb 4096 (length t) a, le-ltb 32 (length xs) b, borrow.Author.Tests.ne-eqb (length w) (length xs) c);
-    scanned = λ a b c n q. judges t xs w (a, b) c ∙ ap (λ o. judgeRead o xs w) q;
-    answered = λ a b c s q. low (obeys s xs w) (judges t xs w (a, b) c ∙ ap (λ o. judgeRead o xs w) q);
+      wide : (f : Elem Leaf) → Accepted t f → length (normalForm f) ≤ length room → ⊥
+      wide f p h = let s = ap (λ v. length (normalForm v)) (element-same t e f q p) in omega arith
+  given-of (formed e q b z k a) = record {
+    refused = λ m p o. (λ f. absurd (omega arith), λ c. absurd (not-both (readElement leafHead t) m e c q));
+    twelve = (λ f. absurd (omega arith), λ c. absurd (narrow (c .0) (c .1) (c .2)));
+    done = (λ _. (e, q, b), λ _. z);
+    numbers = (omega arith, λ f. omega arith, λ f. omega arith, λ f. omega arith);
+    written = λ _ f p. subst (λ v. (l ≡ length (normalForm v)) × (after ≡ normalForm v ++ drop l room)) (element-same t e f q p) (k, a);
+    untouched = λ f. absurd (f z);
   }
     where
-      low : (b : Bool) → judgeAnswer t xs w ≡ cond b 0 1 → judgeAnswer t xs w ≤ 1
-      low true e = omega (arith, e)
-      low false e = omega (arith, e)
+      narrow : (f : Elem Leaf) → Accepted t f → length room < length (normalForm f) → ⊥
+      narrow f p h = let s = ap (λ v. length (normalForm v)) (element-same t e f q p) in omega arith
 
--- ---- demand 1: the normaliser
+  normal-given : NormalCall t room n l after → NormalGiven t room n l after
+  normal-given c = given-of (normal-outcome t room n l after (normal-answer t room n l after c))
 
-module _ (t room : List ℕ) (n l : ℕ) (after : List ℕ) (h : normalised t room ≡ answer n l after) where
-  read-as : (o : Read (Elem Leaf)) → readElement leafHead t ≡ o → answer n l after ≡ answerTo o room
-  unfolding normalised
-  read-as o q = sym h ∙ ap (λ v. answerTo v room) q
-
-  normal-given : NormalGiven t room n l after
-  unfolding answerTo placed
-  normal-given = record {
-    refused = λ r q. let e : answer n l after ≡ answer r 0 room = read-as (refuse r) q in cc;
-    twelve = λ e a b. let q : answer n l after ≡ answer 12 0 room = read-as (got e []) a ∙ rw (lt-ltb (length room) (length (normalForm e)) b) in cc;
-    done = λ e a b. finish e (sym h ∙ form-placed t e room a b);
-    untouched = λ z. same z (readElement leafHead t) refl;
-  }
-    where
-      finish : (e : Elem Leaf) → answer n l after ≡ answer 0 (length (normalForm e)) (normalForm e ++ drop (length (normalForm e)) room)
-          → (n ≡ 0) × (l ≡ length (normalForm e)) × (after ≡ normalForm e ++ drop l room)
-      finish e q = let z : l ≡ length (normalForm e) = cc in (cc, z, rw z (cc))
-
-      same : (n ≡ 0 → ⊥) → (o : Read (Elem Leaf)) → readElement leafHead t ≡ o → (l ≡ 0) × (after ≡ room)
-      same z (refuse r) q = let e : answer n l after ≡ answer r 0 room = read-as (refuse r) q in (cc, cc)
-      same z (got e rest) q =
-          by-test (ltb (length room) (length (normalForm e)))
-          (λ b. let f : answer n l after ≡ answer 12 0 room = read-as (got e rest) q ∙ rw b in (cc, cc))
-          (λ b. let f : answer n l after ≡ answer 0 (length (normalForm e)) (normalForm e ++ drop (length (normalForm e)) room) = read-as (got e rest) q ∙ rw b in let y : n ≡ 0 = cc in absurd (z y))
-
--- ---- the demands
+either : {A : Type 0} (o : Read A) → Cases o → ((a : A) × (o ≡ got a [])) ⊎ ((n : ℕ) × (o ≡ refuse n))
+either o (isRefused n e p) = inr (n, e)
+either o (isRead a e) = inl (a, e)
 
 pub first : First
-first = record { matcher = match-given; judge = judge-given; normaliser = normal-given }
+first = record {
+  matcher = match-given;
+  judge = judge-given;
+  normaliser = normal-given;
+  templates = λ t. either (readTemplate leafHead t) (read-cases t);
+  templateRows = λ t n q. let row = template-row t n q in (row .least, row .most);
+  elements = λ t. either (readElement leafHead t) (element-cases t);
+  elementRows = λ t n q. let row = element-row t n q in (row .least, row .most, element-not-nine t n q);
+}
+
+-- ---- demand 2
+
+module _ (t : List ℕ) (xs : List ℤ) (s : Template Leaf) (room : List ℕ) (r : ℕ) (after : List ℕ) (c : MatchCall t xs room r after) (k : Taken t xs) (l : length xs ≤ length room) (q : Accepts t s) where
+  answer-is : matchAnswer t xs room ≡ given r after
+  answer-is = match-answer t xs room r after c
+
+  -- where some assignment obeys, the first stands in the room
+  first-there : (v : List ℕ) → Obeys s xs v → (r ≡ 0) × FirstOf (Obeys s xs) (take (length xs) after)
+  first-there v o =
+      let m = matched-where t xs room s k l q v o in
+      let e : given r after ≡ given 0 (m .witness ++ drop (length xs) room) = sym answer-is ∙ m .answer in
+      let same : after ≡ m .witness ++ drop (length xs) room = cc in
+      (cc, subst (FirstOf (Obeys s xs)) (sym (ap (take (length xs)) same ∙ take-at (m .witness) (drop (length xs) room) (length xs) (m .size))) (m .first))
+
+  none-there : ((v : List ℕ) → Obeys s xs v → ⊥) → r ≡ 1
+  none-there n = let e : given r after ≡ given 1 room = sym answer-is ∙ unmatched-where t xs room s k l q n in cc
+
+  matched-exactly : MatchedExactly xs s r after
+  matched-exactly = go (firstWitness s xs) refl
+    where
+      go : (m : Maybe) → firstWitness s xs ≡ m → MatchedExactly xs s r after
+      go nothing e =
+          let none = none-witness s xs e in
+          let one = none-there none in
+          record { matched = (λ z. absurd (omega arith), λ p. absurd (none (p .0) (p .1))); unmatched = (λ _. none, λ _. one); first = λ z. absurd (omega arith) }
+      go (just w) e =
+          let o : Obeys s xs w = first-witness s xs w (few-members t s q) e .holds in
+          let there = first-there w o in
+          let zero : r ≡ 0 = there .0 in
+          record { matched = (λ _. (w, o), λ _. zero); unmatched = (λ z. absurd (omega arith), λ n. absurd (n w o)); first = λ _. there .1 }
+
+module _ (t : List ℕ) (xs : List ℤ) (s : Template Leaf) (w : List ℕ) (r : ℕ) (c : JudgeCall t xs w r) (k : Taken t xs) (l : length w ≡ length xs) (q : Accepts t s) where
+  judged-exactly : JudgedExactly xs s w r
+  judged-exactly =
+      let a = judge-answer t xs w r c in
+      let j = judged-where t xs w s k l q in
+      let passes : Obeys s xs w → r ≡ 0 = λ o. sym a ∙ j .0 o in
+      record {
+        passed = (λ z. j .1 (a ∙ z), passes);
+        failed = (λ z o. one-zero z (passes o), λ n. by-test (obeys s xs w) (λ o. absurd (n o)) (λ o. sym a ∙ j .2 o));
+      }
+    where
+      one-zero : r ≡ 1 → r ≡ 0 → ⊥
+      one-zero p z = omega arith
 
 pub second : Second
-second = record {
-  matcher = λ t xs s room a b c q. record {
-    some = λ v o. let m = matched-where t xs room s (a, b) c q v o in (m .witness, m .first, m .answer);
-    none = λ n. unmatched-where t xs room s (a, b) c q n;
-  };
-  judge = λ t xs s w a b c q. let j = judged-where t xs w s (a, b) c q in record { passes = j .0; obeyed = j .1 };
-}
+second = record { matcher = matched-exactly; judge = judged-exactly }
 
-pub third : Third
-third = record {
-  same = λ t e room a l. (reads-back t e a, form-placed t e room a (omega (arith, side-of t e a .size)));
-  canonical = λ t t' e e' a a'. (same-integers-same-form t e a t' e' a', same-form-same-integers t e a t' e' a');
-  stable = λ t e e' a a'. form-of-form t e a e' a';
-  smaller = λ t e e' a a'. leaves-of-form t e a e' a';
-}
+-- ---- demand 3
 
--- ---- what a normal form is written from, and how long it is
+module _ (t : List ℕ) (e : Elem Leaf) (n l : ℕ) (f : List ℕ) (c : FormCall t e n l f) where
+  form-answer : answer n l (c .after) ≡ answer 0 (length (normalForm e)) (normalForm e ++ drop (length (normalForm e)) (c .room))
+  form-answer =
+      let size = side-of t e (c .accepted) .size in
+      let roomy = c .roomy in
+      sym (normal-answer t (c .room) n l (c .after) (c .call)) ∙ form-placed t e (c .room) (c .accepted) (omega arith)
 
-pub maximal : Maximal
-maximal t e a =
+  form-size : l ≡ length (normalForm e)
+  form-size = let q = form-answer in cc
+
+  -- what stands in front of the room is the form
+  form-there : f ≡ normalForm e
+  form-there =
+      let q = form-answer in
+      let a : c .after ≡ normalForm e ++ drop (length (normalForm e)) (c .room) = cc in
+      sym (c .front) ∙ ap (take l) a ∙ take-at (normalForm e) (drop (length (normalForm e)) (c .room)) l (sym form-size)
+
+  form-reads : Accepted f (side-of t e (c .accepted) .what)
+  form-reads = let s = side-of t e (c .accepted) in subst (λ b. Accepted b (s .what)) (sym form-there) (accepted-side e s)
+
+  form-of : FormOf e n l f
+  form-of =
+      let s = side-of t e (c .accepted) in
+      let q = form-answer in
+      record {
+        done = cc;
+        whole = ap length form-there ∙ sym form-size;
+        size = form-size ∙ length-normalForm e;
+        most = omega (arith, form-size, s .size);
+        what = s .what;
+        reads = form-reads;
+        same = s .same;
+        smaller = s .count;
+      }
+
+  form-again : (room : List ℕ) (n′ l′ : ℕ) (after : List ℕ) → NormalCall f room n′ l′ after → l ≤ length room → (n′ ≡ 0) × (l′ ≡ l) × (take l′ after ≡ f)
+  form-again room n′ l′ after c′ roomy =
+      let s = side-of t e (c .accepted) in
+      let e′ = s .what in
+      let is : normalForm e′ ≡ normalForm e = form-of-form t e (c .accepted) e′ (accepted-side e s) in
+      let g = normal-given f room n′ l′ after c′ in
+      let z : n′ ≡ 0 = g .done .1 (e′, form-reads, omega (arith, ap length is, form-size, roomy)) in
+      let w = g .written z e′ form-reads in
+      let size : l′ ≡ length (normalForm e′) = w .0 in
+      (z, size ∙ ap length is ∙ sym form-size, ap (take l′) (w .1) ∙ take-at (normalForm e′) (drop l′ room) l′ (sym size) ∙ is ∙ sym form-there)
+
+ranges-maximal : (t : List ℕ) (e : Elem Leaf) → Accepted t e → MaximalRanges e
+ranges-maximal t e a =
     let g = accepted-facts t e a .0 in
     let s = elem-set e g in
     record { ascending = s .ascending; right = s .right; widest = widest-of e g }
 
-pub lengths : Lengths
-lengths t e a = (length-normalForm e, side-of t e a .size)
+pub third : Third
+third = record {
+  form = form-of;
+  canonical = λ t t′ e e′ n n′ l l′ f f′ c c′.
+      let there : f ≡ normalForm e = form-there t e n l f c in
+      let there′ : f′ ≡ normalForm e′ = form-there t′ e′ n′ l′ f′ c′ in (
+        λ h. same-form-same-integers t e (c .accepted) t′ e′ (c′ .accepted) (sym there ∙ h ∙ there′),
+        λ h. there ∙ same-integers-same-form t e (c .accepted) t′ e′ (c′ .accepted) h ∙ sym there′,
+      );
+  again = form-again;
+  maximal = ranges-maximal;
+}
+
+-- ---- every input has a call; matcher and judge agree
+
+pub answered : Answered
+answered = (match-called, judge-called, normal-called)
+
+pub judgeAgrees : JudgeAgrees
+judgeAgrees t xs room after r c j =
+    let a = match-given t xs room 0 after c .rows .answered .0 (omega arith) in
+    let s = a .2 .0 in
+    let o : Obeys s xs (take (length xs) after) = matched-exactly t xs s room 0 after c (a .0) (a .1) (a .2 .1) .first refl .holds in
+    judged-exactly t xs s (take (length xs) after) r j (a .0) (obeys-size s xs (take (length xs) after) o) (a .2 .1) .passed .1 o
+
+pub someIsMatched : SomeIsMatched
+someIsMatched t xs w room after r j l c =
+    let a = judge-given t xs w 0 j .rows .answered .0 (omega arith) in
+    let s = a .2 .0 in
+    let o : Obeys s xs w = judged-exactly t xs s w 0 j (a .0) (a .1) (a .2 .1) .passed .0 refl in
+    matched-exactly t xs s room r after c (a .0) l (a .2 .1) .matched .1 (w, o)
 
 -- ---- the table
 
 pub asJudged : AsJudged
 unfolding allComeOut comesOut gives forms sameBytes judged signed intAt intBytes between cnt allOnce membersOfGroup membersOfItem membersOfItems membersOf countFault boundsFault groupHead head singleHead rangeHead leafHead ended uncounted putFirst thenMore many closed tooDeep opened elem readElement mapRead starHere numbered putMember thenMembers thenStar putItem thenItems clashes member members permutationHere item items contents bodyHere templateHere readTemplate matchesBy leafMatches memberHits rightBytes noneTwice allSpare withinBlock starMet groupTakes itemTakes someCut cuts bodyMet lengthMet obeysBy put orElse tryEach firstOf from membersCount firstWitness written matchRead matchAnswer joinAll join gaps gapsFrom rangesOf recordOf records matchedForm unmatchedForm form normalForm placed answerTo normalised
 asJudged = refl
-
--- ---- the matcher and the judge
-
-pub judgeAgrees : JudgeAgrees
-judgeAgrees t xs room after h =
-    let b = behind t xs room after h in
-    let f = first-witness (b .s) xs (b .w) (few-members t (b .s) (b .reading)) (b .first) in
-    let z = obeys-size (b .s) xs (b .w) (f .holds) in
-    let e : take (length xs) after ≡ b .w = ap (take (length xs)) (b .same) ∙ take-at (b .w) (drop (length (b .w)) room) (length xs) z in
-    ap (judgeAnswer t xs) e ∙ judged-where t xs (b .w) (b .s) (b .taken) z (b .reading) .0 (f .holds)
-
-pub someIsMatched : SomeIsMatched
-someIsMatched t xs w room l h =
-    let p = passed t xs w h in
-    let m = matched-where t xs room (p .s) (p .taken) l (p .reading) w (p .obeyed) in
-    (m .witness ++ drop (length xs) room, m .answer)

@@ -1,6 +1,8 @@
+-- Calls       == the contracts of the entry points are equations: what a call gives is what the definitions give
 -- NormalForms == laws of normal forms: what a form reads as, that it is the only one for its integers, and how long it is
--- MatcherAndJudge == what stands behind a 0 of the matcher and of the judge
--- Claims      == the demands, the table and the claims about normal forms, proved
+-- Outcomes    == each number of the matcher, the judge and the normaliser with what it was given for
+-- Claims      == the demands, the table and the other claims, proved
+mod Calls
 mod NormalForms
-mod MatcherAndJudge
+mod Outcomes
 pub mod Claims

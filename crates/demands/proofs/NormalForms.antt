@@ -19,7 +19,7 @@ use Rattle.integers.specs.Integer.{Word}
 use Rattle.facts.proofs.Cases.{by-test}
 use Rattle.integers.proofs.Ranks.{word-next, word-prev}
 use Rattle.forms.specs.Answer.{answer, placed, answerTo, normalised}
-use Rattle.demands.specs.NormalForms.{Accepted, SameIntegers, ReadsBack}
+use Rattle.demands.specs.NormalForms.{Accepted, SameIntegers}
 use Rattle.forms.specs.Form.{matchedForm, unmatchedForm, form, normalForm, formLength}
 use Rattle.forms.specs.Matched.{rangesOf}
 use Rattle.forms.proofs.Accepts.{Good, read-of, accepted-facts}
@@ -81,7 +81,7 @@ module _ (e : Elem Leaf) (g : Good e) (some : 0 < leaves e) (most : leaves e ≤
 pub side-of : (t : List ℕ) (e : Elem Leaf) → Accepted t e → Side e
 side-of t e a = let f = accepted-facts t e a in side e (f .0) (f .1) (f .2)
 
-accepted-side : (e : Elem Leaf) (s : Side e) → Accepted (normalForm e) (s .what)
+pub accepted-side : (e : Elem Leaf) (s : Side e) → Accepted (normalForm e) (s .what)
 accepted-side e s = read-of (normalForm e) (s .what) (s .reads .count) (omega (arith, s .size)) (s .reads .reads)
 
 -- ---- what a form is written from, and how long it is
@@ -116,9 +116,6 @@ unfolding normalForm
 same-form e e′ g g′ h = ap form (same-set (rangesOf e) (rangesOf e′) (matches e) (matches e′) (2 * leaves e) (2 * leaves e′) (elem-set e g) (elem-set e′ g′) h)
 
 module _ (t : List ℕ) (e : Elem Leaf) (a : Accepted t e) where
-  pub reads-back : ReadsBack e
-  reads-back = let s = side-of t e a in record { what = s .what; reads = accepted-side e s; same = s .same }
-
   module _ (t′ : List ℕ) (e′ : Elem Leaf) (a′ : Accepted t′ e′) where
     pub same-integers-same-form : SameIntegers e e′ → normalForm e ≡ normalForm e′
     same-integers-same-form = same-form e e′ (accepted-facts t e a .0) (accepted-facts t′ e′ a′ .0)

@@ -3,16 +3,16 @@
 --                the bytes of its normal form
 -- sameBytes a b == the bytes a are the bytes b
 -- gives g n after == the answer g is the number n and the room `after`
--- forms g bytes == the answer g is 0 and the normal form `bytes`, written to its length
+-- forms g bytes == the answer g is 0, the length of the normal form `bytes`, and the room of 600 bytes with these in front, all others 165
 -- comesOut row == the definitions give what the row says. The room of a list is a byte longer than the list, that of a form 600 bytes, all 165
 -- allComeOut rows == every row is so
 -- judged      == the table
 -- Assumes nothing: these are definitions.
-use mathlib.Core.List.{List, [], _∷_}
+use mathlib.Core.List.{List, [], _∷_, _++_}
 use mathlib.Core.Bool.{Bool, true, false, _&&_}
-use Prim.Native.Nat.{ℕ, suc}
+use Prim.Native.Nat.{ℕ, suc, _-_}
 use lib.Dec.{eqb}
-use lib.ListN.{length, take, replicate}
+use lib.ListN.{length, replicate}
 use lib.IntN.{ℤ, pos}
 use Rattle.matching.specs.Answer.{Given, given, matchAnswer}
 use Rattle.forms.specs.Answer.{Answer, answer, normalised}
@@ -31,7 +31,7 @@ unfoldable pub gives : Given → ℕ → List ℕ → Bool
 gives (given r room) n after = eqb r n && sameBytes room after
 
 unfoldable pub forms : Answer → List ℕ → Bool
-forms (answer n l room) bytes = eqb n 0 && (eqb l (length bytes) && sameBytes (take (length bytes) room) bytes)
+forms (answer n l room) bytes = eqb n 0 && (eqb l (length bytes) && sameBytes room (bytes ++ replicate (600 - length bytes) 165))
 
 unfoldable pub comesOut : Row → Bool
 comesOut (onList t xs n after) = gives (matchAnswer t xs (replicate (suc (length xs)) 165)) n after

@@ -1,7 +1,6 @@
--- What demand 3 speaks of: element templates by themselves, and their normal forms read again.
+-- What demand 3 speaks of: element templates by themselves.
 -- Accepted t e       <-> the bytes t are one element template by itself, and that is e
 -- SameIntegers e e′  <-> e and e′ match the same 32-bit integers
--- ReadsBack e        <-> the form of e reads as an element template that matches the same integers as e
 -- Assumes nothing: these are definitions.
 use Prim.Native.Nat.{ℕ}
 use mathlib.Core.Path.{_≡_}
@@ -13,15 +12,9 @@ use Rattle.grammar.specs.Leaf.{Leaf, leafHead}
 use Rattle.grammar.specs.Read.{got}
 use Rattle.grammar.specs.Reading.{readElement}
 use Rattle.grammar.specs.Matches.{matches}
-use Rattle.forms.specs.Form.{normalForm}
 
 abbrev pub Accepted : List ℕ → Elem Leaf → Type 0
 Accepted t e = readElement leafHead t ≡ got e []
 
 abbrev pub SameIntegers : Elem Leaf → Elem Leaf → Type 0
 SameIntegers e e′ = (x : ℤ) → Word x → matches e x ≡ matches e′ x
-
-pub record ReadsBack (e : Elem Leaf) : Type 0 where
-  pub what : Elem Leaf
-  pub reads : Accepted (normalForm e) what
-  pub same : SameIntegers what e

@@ -2,12 +2,15 @@
 -- Row Q         <-> Q holds of the numbers 3 to 8, those of one record of an element template
 -- Refusals Q o  <-> Q holds of o's number, where o is a refusal
 -- elem-numbers, whole-numbers == so it is of element templates, and, where Q holds of 9 too, of templates
--- read-cases    == a whole input is refused by a number above 0, or read to its end
-use mathlib.Core.Path.{_≡_, refl}
+-- TableRow s r  <-> r is one of the rows about the bytes s themselves, 2 to 10, and 2 only where they are too long
+-- template-row, element-row, element-not-nine == what the refusals of a whole input are; that of an element template by itself is never 9
+-- read-cases, element-cases == a whole input is refused by a number above 0, or read to its end
+use mathlib.Core.Path.{_≡_, refl, subst}
 use mathlib.Core.Bool.{Bool, true, false, _&&_, cond}
 use mathlib.Core.List.{List, [], _∷_}
-use Prim.Native.Nat.{ℕ, zero, suc, _+_, _<_}
+use Prim.Native.Nat.{ℕ, zero, suc, _+_, _<_, _≤_}
 use native.Mathlib.Omega.{arith}
+use borrow.Author.Tests.{ltb-true}
 use lib.Dec.{ltb, eqb}
 use lib.Signed.{ltZ}
 use lib.ListN.{length, getD, drop}
@@ -17,8 +20,8 @@ use Rattle.grammar.specs.Template.{Star, noStar, star, Group, grouped, I
 use Rattle.format.specs.Bounds.{badBounds}
 use Rattle.grammar.specs.Record.{Head, fault, leafHere, group, kindOf, outside, countFault, boundsFault, faultOr, groupHead, head}
 use Rattle.grammar.specs.Leaf.{Leaf, single, range, any, singleHead, rangeHead, leafHead}
-use Rattle.grammar.specs.Read.{Read, refuse, got, orRefuse, refuseOr, ended, mapRead}
-use Rattle.grammar.specs.Reading.{Counted, counted, uncounted, putFirst, thenMore, many, closed, tooDeep, opened, elem, outermost}
+use Rattle.grammar.specs.Read.{Read, refuse, got, orRefuse, refuseOr, ended, limited, mapRead}
+use Rattle.grammar.specs.Reading.{Counted, counted, uncounted, putFirst, thenMore, many, closed, tooDeep, opened, elem, outermost, readElement}
 use Rattle.grammar.specs.Whole.{asSpares, hasStar, starHere, fewest, clashes, numbered, putMember, thenMembers, thenStar, putItem, thenItems, member, members, permutationHere, item, items, contents, bodyHere, templateHere, readTemplate}
 
 pub record Row (Q : ℕ → Type 0) : Type 0 where
@@ -215,21 +218,87 @@ module _ (Q : ℕ → Type 0) where
       unfolding templateHere
       whole-numbers s = read-either (eqb (kindOf s) 48) _ _ (bounds-numbers s _ (body-numbers (between (getD s 1 0) (getD s 2 0)) (drop 3 s))) (body-numbers anyLength s)
 
--- ---- a whole input
+-- ---- a whole input: 2 for over 4,096 bytes, 10 for bytes left
 
+whole : (Q : ℕ → Type 0) {A : Type 0} (s : List ℕ) (o : Read A) → (4096 < length s → Q 2) → Q 10 → Refusals Q o → Refusals Q (limited s (ended o))
+unfolding ended
+whole Q s o p2 p10 h = go (ltb 4096 (length s)) refl o h
+  where
+    go : {A : Type 0} (b : Bool) → ltb 4096 (length s) ≡ b → (o : Read A) → Refusals Q o → Refusals Q (orRefuse b 2 (ended o))
+    go true e o h = p2 (ltb-true 4096 (length s) e)
+    go false e (refuse r) h = h
+    go false e (got a []) h = tt
+    go false e (got a (x ∷ t)) h = p10
+
+refused-so : {A : Type 0} (Q : ℕ → Type 0) (o : Read A) (r : ℕ) → Refusals Q o → o ≡ refuse r → Q r
+refused-so Q o r h e = subst (λ u. Refusals Q u) e h
+
+-- the rows about the bytes of an input themselves; 2 only where it is too long
+pub record TableRow (s : List ℕ) (r : ℕ) : Type 0 where
+  pub least : 2 ≤ r
+  pub most : r ≤ 10
+  pub long : r ≡ 2 → 4096 < length s
+
+table-row : (s : List ℕ) (r : ℕ) → 3 ≤ r → r ≤ 10 → TableRow s r
+table-row s r p q = record { least = omega arith; most = q; long = λ e. absurd (omega arith) }
+
+table-rows : (s : List ℕ) → Row (TableRow s)
+table-rows s = record {
+  r3 = table-row s 3 (omega arith) (omega arith);
+  r4 = table-row s 4 (omega arith) (omega arith);
+  r5 = table-row s 5 (omega arith) (omega arith);
+  r6 = table-row s 6 (omega arith) (omega arith);
+  r7 = table-row s 7 (omega arith) (omega arith);
+  r8 = table-row s 8 (omega arith) (omega arith);
+}
+
+too-long : (s : List ℕ) → 4096 < length s → TableRow s 2
+too-long s h = record { least = omega arith; most = omega arith; long = λ e. h }
+
+pub template-row : (s : List ℕ) (r : ℕ) → readTemplate leafHead s ≡ refuse r → TableRow s r
+unfolding readTemplate
+template-row s r e =
+    refused-so (TableRow s) (readTemplate leafHead s) r
+    (whole (TableRow s) s (templateHere leafHead s) (too-long s) (table-row s 10 (omega arith) (omega arith))
+    (whole-numbers (TableRow s) (table-rows s) (table-row s 9 (omega arith) (omega arith)) s)) e
+
+element-numbers : (Q : ℕ → Type 0) (s : List ℕ) → Row Q → (4096 < length s → Q 2) → Q 10 → Refusals Q (readElement leafHead s)
+unfolding readElement
+element-numbers Q s row p2 p10 = whole Q s (uncounted (outermost leafHead s)) p2 p10 (uncounted-numbers Q (outermost leafHead s) (elem-numbers Q row 8 0 s))
+
+pub element-row : (s : List ℕ) (r : ℕ) → readElement leafHead s ≡ refuse r → TableRow s r
+element-row s r e = refused-so (TableRow s) (readElement leafHead s) r (element-numbers (TableRow s) s (table-rows s) (too-long s) (table-row s 10 (omega arith) (omega arith))) e
+
+-- row 9 is found only at a body: no record of an element template has it
+not-nine : Row (λ r. r ≡ 9 → ⊥)
+not-nine = record { r3 = λ e. omega arith; r4 = λ e. omega arith; r5 = λ e. omega arith; r6 = λ e. omega arith; r7 = λ e. omega arith; r8 = λ e. omega arith }
+
+pub element-not-nine : (s : List ℕ) (r : ℕ) → readElement leafHead s ≡ refuse r → r ≡ 9 → ⊥
+element-not-nine s r e =
+    refused-so (λ r. r ≡ 9 → ⊥) (readElement leafHead s) r (element-numbers (λ r. r ≡ 9 → ⊥) s not-nine (λ _ z. omega arith) (λ z. omega arith)) e
+
+-- an input is refused by a number above 0, or read to its end
 pub data Cases {A : Type 0} (o : Read A) : Type 0 where
   isRefused : (r : ℕ) → o ≡ refuse r → 0 < r → Cases o
   isRead : (a : A) → o ≡ got a [] → Cases o
+
+cases-of : {A : Type 0} (s : List ℕ) (o : Read A) → Refusals (λ r. 0 < r) o → Cases (limited s (ended o))
+unfolding ended
+cases-of s o h = go (ltb 4096 (length s)) o h
+  where
+    go : {A : Type 0} (b : Bool) (o : Read A) → Refusals (λ r. 0 < r) o → Cases (orRefuse b 2 (ended o))
+    go true o h = isRefused 2 refl (omega arith)
+    go false (refuse r) h = isRefused r refl h
+    go false (got a []) h = isRead a refl
+    go false (got a (x ∷ t)) h = isRefused 10 refl (omega arith)
 
 above-zero : Row (λ r. 0 < r)
 above-zero = record { r3 = omega arith; r4 = omega arith; r5 = omega arith; r6 = omega arith; r7 = omega arith; r8 = omega arith }
 
 pub read-cases : (s : List ℕ) → Cases (readTemplate leafHead s)
-unfolding readTemplate ended
-read-cases s = go (ltb 4096 (length s)) (templateHere leafHead s) (whole-numbers (λ r. 0 < r) above-zero (omega arith) s)
-  where
-    go : (b : Bool) (o : Read (Template Leaf)) → Refusals (λ r. 0 < r) o → Cases (orRefuse b 2 (ended o))
-    go true o h = isRefused 2 refl (omega arith)
-    go false (refuse r) h = isRefused r refl h
-    go false (got t []) h = isRead t refl
-    go false (got t (x ∷ r)) h = isRefused 10 refl (omega arith)
+unfolding readTemplate
+read-cases s = cases-of s (templateHere leafHead s) (whole-numbers (λ r. 0 < r) above-zero (omega arith) s)
+
+pub element-cases : (s : List ℕ) → Cases (readElement leafHead s)
+unfolding readElement
+element-cases s = cases-of s (uncounted (outermost leafHead s)) (uncounted-numbers (λ r. 0 < r) (outermost leafHead s) (elem-numbers (λ r. 0 < r) above-zero 8 0 s))

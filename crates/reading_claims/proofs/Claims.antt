@@ -1,20 +1,12 @@
 -- The claims of specs/Claims.antt, proved. Assumes nothing.
 use mathlib.Core.Path.{_≡_, sym, ap, _∙_}
-use mathlib.Core.Bool.{Bool, true, false}
-use mathlib.Core.List.{[], _∷_}
 use Prim.Native.Nat.{ℕ}
 use native.Mathlib.Omega.{arith}
-use lib.Dec.{ltb}
-use lib.ListN.{length}
-use Rattle.grammar.specs.Element.{Elem}
-use Rattle.grammar.specs.Leaf.{Leaf, leafHead}
-use Rattle.grammar.specs.Read.{Read, refuse, got, orRefuse, verdict, ended}
-use Rattle.grammar.specs.Reading.{Counted, counted, uncounted, outermost, readElement}
+use Rattle.grammar.specs.Read.{verdict}
 use Rattle.elements.specs.Contract.{rejected, accepted}
-use Rattle.grammar.proofs.RefusalNumbers.{Row, Refusals, elem-numbers}
 use Rattle.integers.proofs.FourBytes.{intAt-intBytes, intBytes-signed}
 use Rattle.integers.proofs.Ranks.{low, rank-ltZ, rank-leZ, low-eqZ, word-next, rank-next, word-prev, rank-prev}
-use Rattle.reading_claims.specs.Claims.{ReadsBack, WritesBack, OrderKept, Neighbours, NumberGiven, AcceptedAtZero, NeverNine}
+use Rattle.reading_claims.specs.Claims.{ReadsBack, WritesBack, OrderKept, Neighbours, NumberGiven, AcceptedAtZero}
 
 -- ---- integers
 pub readsBack : ReadsBack
@@ -38,17 +30,3 @@ numberGiven A o r (accepted a q z) = z ∙ sym (ap verdict q)
 pub acceptedAtZero : AcceptedAtZero
 acceptedAtZero A o r (rejected q p) = (λ z. absurd (omega arith), λ a e. let c : _≡_ {A = ℕ} 0 1 = cc in absurd (omega arith))
 acceptedAtZero A o r (accepted a q z) = (λ z′. (a, q), λ b e. z)
-
--- row 9 is found only at a body: no record of an element template has it
-not-nine : Row (λ r. r ≡ 9 → ⊥)
-not-nine = record { r3 = λ e. omega arith; r4 = λ e. omega arith; r5 = λ e. omega arith; r6 = λ e. omega arith; r7 = λ e. omega arith; r8 = λ e. omega arith }
-
-pub neverNine : NeverNine
-unfolding verdict ended uncounted readElement
-neverNine s = go (ltb 4096 (length s)) (outermost leafHead s) (elem-numbers (λ r. r ≡ 9 → ⊥) not-nine 8 0 s)
-  where
-    go : (b : Bool) (o : Read (Counted (Elem Leaf))) → Refusals (λ r. r ≡ 9 → ⊥) o → verdict (orRefuse b 2 (ended (uncounted o))) ≡ 9 → ⊥
-    go true o x e = omega arith
-    go false (refuse r) x e = x e
-    go false (got (counted a k) []) x e = omega arith
-    go false (got (counted a k) (y ∷ r)) x e = omega arith

@@ -5,7 +5,6 @@
 -- Neighbours <-> the next and the previous integer have the next and the previous rank, where they exist
 -- NumberGiven    <-> the number that the functions give is the definition's: the verdict of the reading
 -- AcceptedAtZero <-> 0 is given exactly where the bytes are accepted: they were read to their end
--- NeverNine      <-> an element template by itself is never refused by row 9
 -- Assumes nothing: these are statements, proved in proofs/Claims.antt.
 use mathlib.Core.Path.{_≡_}
 use mathlib.Core.List.{List, [], _∷_, _++_}
@@ -15,9 +14,7 @@ use lib.IntN.{ℤ, pos, _+ℤ_, _-ℤ_}
 use lib.Signed.{ltZ, leZ}
 use Rattle.integers.specs.Integer.{Word, joined, signed, intAt, intBytes, eqZ}
 use Rattle.integers.specs.Rank.{rank}
-use Rattle.grammar.specs.Leaf.{leafHead}
 use Rattle.grammar.specs.Read.{Read, got, verdict}
-use Rattle.grammar.specs.Reading.{readElement}
 use Rattle.elements.specs.Contract.{Answered}
 
 -- ---- integers
@@ -39,6 +36,3 @@ NumberGiven = (A : Type 0) (o : Read A) (r : ℕ) → Answered o r → r ≡ ver
 
 abbrev pub AcceptedAtZero : Type 1
 AcceptedAtZero = (A : Type 0) (o : Read A) (r : ℕ) → Answered o r → (r ≡ 0 → (a : A) × (o ≡ got a [])) × ((a : A) → o ≡ got a [] → r ≡ 0)
-
-abbrev pub NeverNine : Type 0
-NeverNine = (s : List ℕ) → verdict (readElement leafHead s) ≡ 9 → ⊥
