@@ -1,4 +1,4 @@
--- The alternating chain: what the contracts of src/chain.rt cite. Sets of members and of places are tests; `ok v e` says that
+-- The alternating chain: what the contracts of src/lib.rt cite. Sets of members and of places are tests; `ok v e` says that
 -- member v may be given element e; a list w has at each place a member, or a byte from 32 on (the place is spare).
 -- Opened w from to F H    <-> F and H are the spare and the held places of the piece
 -- reach may F H v e        == v may take e, which is in F or H

@@ -1,4 +1,4 @@
--- The bounds of a 20 or a 30 (document 01, "The records").
+-- The bounds of a 20 or a 30 (docs/RULES.md, "Limits").
 -- badBounds min max == min or max is outside its range, or min is above max
 -- Assumes nothing: these are definitions.
 use Prim.Native.Nat.{ℕ}

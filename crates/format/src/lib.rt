@@ -1,4 +1,4 @@
-// Every kind of record, every number given back and every limit of document 01, once; how a scan answers in one number; and
+// Every kind of record, every number given back and every limit of docs/RULES.md, once; how a scan answers in one number; and
 // the test of the two bounds of a 20 or a 30.
 ghost use mathlib.Core.Path.{_≡_};
 ghost use Rattle.format.specs.Bounds.{badBounds};

@@ -1,5 +1,5 @@
--- Examples of normal forms, computed: those about the ends of the integers, and the others of document 01; the two that it marks P are
--- rows of the table of judged examples. Assumes nothing.
+-- Examples of normal forms, computed: those about the ends of the integers, and others of examples/judged.txt; the two that are marked P there
+-- are rows of the table of judged examples. Assumes nothing.
 use mathlib.Core.Path.{_≡_, refl}
 use mathlib.Core.List.{List, [], _∷_}
 use lib.IntN.{pos, negsuc}

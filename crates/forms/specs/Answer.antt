@@ -1,4 +1,4 @@
--- What the normaliser gives back (document 01, "Numbers given back").
+-- What the normaliser gives back (docs/RULES.md, "Numbers given back").
 -- Answer          == a number, a length, and the room as it is afterwards
 -- placed f room   == the form f written to the room: 12 where the room is shorter, else 0
 -- answerTo o room == the answer to an input that reads as o

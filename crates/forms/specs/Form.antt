@@ -1,4 +1,4 @@
--- The bytes of a normal form (document 01, "The normal form").
+-- The bytes of a normal form (docs/RULES.md, "The normal form").
 -- recordOf r       == the record of a range: 01 for one integer, 02 for any other
 -- records rs       == the records of rs, one after the other
 -- matchedForm rs   == the form of a set that does not hold the least integer, from the maximal ranges of the integers matched

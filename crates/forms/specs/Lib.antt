@@ -1,4 +1,4 @@
--- The definitions of `forms`: the normal form of an element template (document 01, "The normal form"), and the answer that has it.
+-- The definitions of `forms`: the normal form of an element template (docs/RULES.md, "The normal form"), and the answer that has it.
 -- Matched == the maximal ranges of the integers that an element template matches
 -- Form    == the bytes that the form of a set of integers has, and how many
 -- Answer  == what the normaliser gives back for every input

@@ -1,5 +1,5 @@
--- The maximal ranges of what an element template matches (document 01, "The normal form": "A maximal range is a run of matched integers
--- that can't be widened").
+-- The maximal ranges of what an element template matches (docs/RULES.md, "The normal form": "the runs of neighbouring integers that
+-- are matched, as long as they can be made").
 -- leafRanges l   == those of the leaf l
 -- rangesOf e     == those of the element template e
 -- rangesOfAll es == those of what at least one of es matches

@@ -1,4 +1,4 @@
--- Every refusal row of document 01 and every open point about reading, as rows computed on the definitions; and elements that match and that do not.
+-- Every refusal row of docs/RULES.md, "Numbers given back", and every open point about reading, as rows computed on the definitions; and elements that match and that do not.
 -- Assumes nothing.
 -- Row        == a number and the bytes for which it is given; 0: accepted
 -- templates, elements == the rows of whole templates, and of element templates by themselves

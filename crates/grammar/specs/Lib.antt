@@ -1,4 +1,4 @@
--- What a template is, which bytes are one, and which integers an element template matches (document 01, "The records" and "When an element matches").
+-- What a template is, which bytes are one, and which integers an element template matches (docs/RULES.md, "The records" and "When an element matches").
 -- Element  == element templates
 -- Record   == one record: its own faults and its parts
 -- Leaf     == the leaves of the integer family

@@ -1,4 +1,4 @@
--- Element templates and integers (document 01, "When an element matches").
+-- Element templates and integers (docs/RULES.md, "When an element matches").
 -- matchesBy test e x    == the element template e matches x, where `test` says which x a leaf matches
 -- anyMatchesBy test es x == at least one of es matches x
 -- leafMatches l x       == the leaf l of the integer family matches the integer x

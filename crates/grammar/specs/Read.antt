@@ -1,4 +1,4 @@
--- Reading from the front: a refusal, or what was read and the bytes after it (document 01, "Numbers given back").
+-- Reading from the front: a refusal, or what was read and the bytes after it (docs/RULES.md, "Numbers given back").
 -- Read A    == a refusal's number, or what was read with the bytes after it
 -- orRefuse b r o == the refusal r where b holds, else o
 -- refuseOr r o == the refusal r, or o where r is 0

@@ -1,4 +1,4 @@
--- Bytes read to element templates (document 01, "The records" and "Numbers given back").
+-- Bytes read to element templates (docs/RULES.md, "The records" and "Numbers given back").
 -- The first record at fault from the front decides: each reader stops at the first refusal.
 -- Counted A == what was read, with the leaves so far in its outermost element template
 -- uncounted o == o without the count of leaves

@@ -1,4 +1,4 @@
--- Templates (document 01, "The records").
+-- Templates (docs/RULES.md, "The records").
 -- Star        == whether there is a 20, and its min and max
 -- Group L     == what stands in a set of or a permutation: its element templates in order, and its 20 if it has one
 -- Item L      == an item of a record of: an element template, a 20, a permutation

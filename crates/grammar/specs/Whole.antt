@@ -1,4 +1,4 @@
--- Bytes read to whole templates (document 01, "The records" and "Numbers given back").
+-- Bytes read to whole templates (docs/RULES.md, "The records" and "Numbers given back").
 -- hasStar st      == whether st is a 20; asSpares st == the 20 st as an item of a record of
 -- fewest kind     == the least n in a body of this kind
 -- numbered m h o  == the member o, whose first record is h, with m members before it: h's own fault, 8 for a 33rd, else o
@@ -16,7 +16,7 @@
 -- bodyHere a s    == the body at the front of s, after the length attribute a
 -- templateHere s  == the template at the front of s
 -- readTemplate leafHead s == s as a whole template
--- Each reader takes the reader leafHead of the leaves. At one record the tests stand in the order of document 01:
+-- Each reader takes the reader leafHead of the leaves. At one record the tests stand in the order of docs/RULES.md, "Numbers given back":
 -- 3 for a missing kind, 4, 3 for a short body, 5, 6, 7, 8, 9.
 -- Assumes nothing: these are definitions.
 use Prim.Native.Nat.{ℕ, zero, suc, _+_}

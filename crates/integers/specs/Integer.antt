@@ -1,4 +1,4 @@
--- 32-bit integers (document 01, "The records": "Four-byte integers are two's complement, low byte first").
+-- 32-bit integers (docs/RULES.md, "Integers as bytes": "An integer takes four bytes, the low byte first").
 -- Word z          <-> z is a 32-bit integer, -2147483648 to 2147483647
 -- joined a b c d  == the number that four bytes say with no sign, the low byte a first
 -- signed u        == the integer whose 32 bits are those of u

@@ -3,7 +3,7 @@ use mathlib.Core.Path.{_≡_, refl}
 use mathlib.Core.List.{[], _∷_}
 use Rattle.lines.specs.Line.{digitsBy, decimal, spaceThen, spaced, line}
 
--- the first line of document 01's example, "1 0 2 0 1": one space between two numbers
+-- the first line of the example in docs/RULES.md, "The program", "1 0 2 0 1": one space between two numbers
 one-space-between : line 1 (0 ∷ 2 ∷ 0 ∷ 1 ∷ []) ≡ 49 ∷ 32 ∷ 48 ∷ 32 ∷ 50 ∷ 32 ∷ 48 ∷ 32 ∷ 49 ∷ 10 ∷ []
 unfolding digitsBy decimal spaceThen spaced line
 one-space-between = refl

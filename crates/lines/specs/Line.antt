@@ -1,4 +1,4 @@
--- A line (document 01, "The program": "in decimal, all separated by one space; each line ends with a newline").
+-- A line (docs/RULES.md, "The program": "with one space between two numbers and a line end behind the last").
 -- glyph d      == the ASCII byte of the digit d
 -- digitsBy f n == the decimal digits of n, with f divisions allowed
 -- decimal n    == the decimal digits of n in ASCII, the first first, no zero in front

@@ -1,4 +1,4 @@
--- Assignments that obey and that do not, and first witnesses, computed on the definitions. The examples of document 01 are rows of the demands. Assumes nothing.
+-- Assignments that obey and that do not, and first witnesses, computed on the definitions. The judged examples are rows of the demands. Assumes nothing.
 use mathlib.Core.Path.{_≡_, refl}
 use mathlib.Core.Bool.{true, false}
 use mathlib.Core.List.{[], _∷_}

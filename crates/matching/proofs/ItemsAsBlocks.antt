@@ -1,4 +1,4 @@
--- Each item is its block: what document 01 says of the piece that an item takes is what `cuts` says of its block. Assumes nothing.
+-- Each item is its block: what docs/RULES.md, "When a list matches", says of the piece that an item takes is what `cuts` says of its block. Assumes nothing.
 -- MayAll may e w <-> every byte of w is spare, or a member that may take its element, the first of which is e
 -- Within m k p    <-> every byte of p is spare, or one of the members m .. m + k - 1
 -- Once m k p      <-> each of these members stands in p exactly once

@@ -1,4 +1,4 @@
--- What each entry point gives back (document 01, "Numbers given back"), in the order of the table: 2, 11, 12 or 13, the scan, 10, then 0 or 1.
+-- What each entry point gives back (docs/RULES.md, "Numbers given back"), in the order of the table: 2, 11, 12 or 13, the scan, 10, then 0 or 1.
 -- Given              == a number, and every byte of the room afterwards
 -- orRefused b r room g == the refusal r and the room as it was, where the test b says that its row holds, else g
 -- written m room     == 0 and the witness in front of what it does not cover, or 1 and the room as it was

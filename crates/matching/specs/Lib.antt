@@ -1,4 +1,4 @@
--- The definitions of `matching`: when a list matches (document 01). Nothing here says how a witness is found.
+-- The definitions of `matching`: when a list matches (docs/RULES.md, "When a list matches"). Nothing here says how a witness is found.
 -- Obeys  == the rules of an assignment
 -- Search == the first witness in byte order, by trying all
 -- Answer == what each entry point gives back

@@ -1,4 +1,4 @@
--- Assignments (document 01, "When a list matches"). A witness is a list of bytes, one for each element: a member's number, or 255 (spare).
+-- Assignments (docs/RULES.md, "When a list matches"). A witness is a list of bytes, one for each element: a member's number, or 255 (spare).
 -- L is the type of the leaves, X that of the elements, and hits e x says whether the element template e matches the element x.
 -- spare            == 255
 -- rightBytes hits es xs w == w has one byte for each element of xs, and an element is given only to a member that matches it

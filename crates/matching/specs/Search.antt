@@ -1,4 +1,4 @@
--- The first witness (document 01: "Of all assignments the first in byte order is written"), by trying all lists of bytes in byte order.
+-- The first witness (docs/RULES.md, "The witness": "it is the first one in byte order"), by trying all lists of bytes in byte order.
 -- Maybe           == a list of bytes, or nothing
 -- put b r         == r with the byte b in front, where there is one
 -- orElse r s      == r where there is one, else s

@@ -1,5 +1,5 @@
--- The parts of the input (document 01, "The program"): "a record 50 with a two-byte length (low byte first), that many bytes of
--- template, then lists, each a record 40 with a one-byte n and n records 01".
+-- The parts of the input (docs/RULES.md, "The program": "a record 50, and then any number of records 40"). A record 50 has the length of the template in
+-- two bytes, the low one first, and the template; a record 40 has n in a byte, and n records 01.
 -- recordFault kind size s == the fault of the record of this kind, whose body ends at `size`, at the front of s: 3 missing bytes or
 --                       4 a wrong kind, whichever comes first reading from the front; 0 for none
 -- putInteger x o   == the integer x in front of the integers o
