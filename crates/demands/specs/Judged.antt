@@ -1,4 +1,4 @@
--- The judged examples of document 01 that are marked P, as one table under one statement: list rows and normal-form rows alike.
+-- The judged examples that are marked P in `examples/judged.txt`, as one table under one statement: list rows and normal-form rows alike.
 -- Row         == what is given and what must come out: a template, a list, the number and the room afterwards; or an element template and
 --                the bytes of its normal form
 -- sameBytes a b == the bytes a are the bytes b
