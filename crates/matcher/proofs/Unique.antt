@@ -17,7 +17,7 @@ use Rattle.matcher.proofs.match_list.Kinds as match-list-kinds
 use Rattle.matcher.proofs.judge.Reads as judge
 use Rattle.matcher.proofs.judge.Kinds as judge-kinds
 
-one-given : (g : Given) (r r′ : ℕ) (a a′ : List ℕ) → given r a ≡ g → given r′ a′ ≡ g → (r ≡ r′) × (a ≡ a′)
+pub one-given : (g : Given) (r r′ : ℕ) (a a′ : List ℕ) → given r a ≡ g → given r′ a′ ≡ g → (r ≡ r′) × (a ≡ a′)
 one-given g r r′ a a′ p q = (cc, cc)
 
 pub match-planned-unique : (κs : Lfts 3) (a : Dens κs match-planned-kinds.ps) (r r′ : resT match-planned-kinds.r κs .Denot) (s s′ : AtExit (endedOf 3 match-planned-kinds.ps match-planned-kinds.r) κs)

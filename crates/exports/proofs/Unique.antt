@@ -1,0 +1,35 @@
+-- Each exported function's promise allows one result only, with all that it writes, stated of the contract itself. Assumes nothing.
+use mathlib.Core.Path.{_≡_, sym, _∙_}
+use borrow.Fn.Kinds.{Dens, resT, endedOf}
+use contract.Lifetimes.{Lfts}
+use denote.Triple.Clauses.{AtExit}
+use Rattle.matcher.proofs.Unique.{one-given}
+use Rattle.normal.proofs.Unique.{answer-parts}
+use Rattle.why.proofs.NumberAndGroup.{one-number, one-group}
+use Rattle.exports.proofs.intake_match.Reads as intake-match
+use Rattle.exports.proofs.intake_match.Kinds as intake-match-kinds
+use Rattle.exports.proofs.intake_judge.Reads as intake-judge
+use Rattle.exports.proofs.intake_judge.Kinds as intake-judge-kinds
+use Rattle.exports.proofs.intake_normalise.Reads as intake-normalise
+use Rattle.exports.proofs.intake_normalise.Kinds as intake-normalise-kinds
+use Rattle.exports.proofs.intake_why_not.Reads as intake-why-not
+use Rattle.exports.proofs.intake_why_not.Kinds as intake-why-not-kinds
+
+-- number and every byte of the room
+pub intake-match-unique : (κs : Lfts 3) (a : Dens κs intake-match-kinds.ps) (r r′ : resT intake-match-kinds.r κs .Denot) (s s′ : AtExit (endedOf 3 intake-match-kinds.ps intake-match-kinds.r) κs)
+    → intake-match.Post κs a r s → intake-match.Post κs a r′ s′ → (r ≡ r′) × (s .1 .1 .0 .now ≡ s′ .1 .1 .0 .now)
+intake-match-unique κs a r r′ s s′ p q = one-given _ r r′ _ _ p q
+
+pub intake-judge-unique : (κs : Lfts 3) (a : Dens κs intake-judge-kinds.ps) (r r′ : resT intake-judge-kinds.r κs .Denot) (s s′ : AtExit (endedOf 3 intake-judge-kinds.ps intake-judge-kinds.r) κs)
+    → intake-judge.Post κs a r s → intake-judge.Post κs a r′ s′ → r ≡ r′
+intake-judge-unique κs a r r′ s s′ p q = p ∙ sym q
+
+-- number, length and every byte of the room
+pub intake-normalise-unique : (κs : Lfts 3) (a : Dens κs intake-normalise-kinds.ps) (r r′ : resT intake-normalise-kinds.r κs .Denot) (s s′ : AtExit (endedOf 3 intake-normalise-kinds.ps intake-normalise-kinds.r) κs)
+    → intake-normalise.Post κs a r s → intake-normalise.Post κs a r′ s′ → (r ≡ r′) × (s .1 .1 .0 .now ≡ s′ .1 .1 .0 .now) × (s .1 .0 .now ≡ s′ .1 .0 .now)
+intake-normalise-unique κs a r r′ s s′ p q = answer-parts _ r r′ _ _ _ _ p q
+
+-- number and group
+pub intake-why-not-unique : (κs : Lfts 3) (a : Dens κs intake-why-not-kinds.ps) (r r′ : resT intake-why-not-kinds.r κs .Denot) (s s′ : AtExit (endedOf 3 intake-why-not-kinds.ps intake-why-not-kinds.r) κs)
+    → intake-why-not.Post κs a r s → intake-why-not.Post κs a r′ s′ → (r ≡ r′) × (s .1 .1 .0 .now ≡ s′ .1 .1 .0 .now)
+intake-why-not-unique κs a r r′ s s′ p q = (one-number p q, one-group p q)

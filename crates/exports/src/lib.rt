@@ -1,0 +1,46 @@
+// The four entry points under plain names, for C and Rust to link. A slice arrives as a pointer and a length. What an entry point gives beside its
+// number goes to the place that the caller lends for it. No parameter of these functions changes later: requests add functions.
+ghost use mathlib.Core.Path.{_≡_};
+ghost use Rattle.matching.specs.Answer.{given, matchAnswer, judgeAnswer};
+ghost use Rattle.forms.specs.Answer.{answer, normalised};
+ghost use Rattle.why.specs.Why.{WhyOf};
+use matcher::judge;
+use matcher::match_list;
+use normal::normalise;
+use why::why_not;
+
+// Does this list match: the number, and on a match the first witness in byte order at the front of the room.
+#[no_mangle]
+pub extern "C" fn intake_match(template: &[u8], list: &[i32], room: &mut [u8]) -> u8
+    ensures { λ r. ⌜ given r (now (room .exit)) ≡ matchAnswer (now (template .entry)) (now (list .entry)) (now (room .entry)) ⌝ }
+{
+    match_list(template, list, room)
+}
+
+// Does this witness obey: 0 or 1, or the number of a refusal.
+#[no_mangle]
+pub extern "C" fn intake_judge(template: &[u8], list: &[i32], witness: &[u8]) -> u8
+    ensures { λ r. ⌜ r ≡ judgeAnswer (now (template .entry)) (now (list .entry)) (now (witness .entry)) ⌝ }
+{
+    judge(template, list, witness)
+}
+
+// The normal form of one element template at the front of the room, and its length; with any number but 0 the length is 0.
+#[no_mangle]
+pub extern "C" fn intake_normalise(template: &[u8], room: &mut [u8], length: &mut usize) -> u8
+    ensures { λ r. ⌜ answer r (now (length .exit)) (now (room .exit)) ≡ normalised (now (template .entry)) (now (room .entry)) ⌝ }
+{
+    let given = normalise(template, room);
+    *length = given.length;
+    given.number
+}
+
+// The matcher's number, and the group that is the reason as a mask, 0 where none is given.
+#[no_mangle]
+pub extern "C" fn intake_why_not(template: &[u8], list: &[i32], group: &mut u32) -> u8
+    ensures { λ r. ⌜ WhyOf (now (template .entry)) (now (list .entry)) r (now (group .exit)) ⌝ }
+{
+    let given = why_not(template, list);
+    *group = given.group;
+    given.number
+}
