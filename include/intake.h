@@ -1,0 +1,96 @@
+/*
+ * intake.h: the entry points of Intake for C11 and C++, in the static library that `rt staticlib exports` writes (x86-64 Linux).
+ *
+ * Each function gives back one of the numbers below, for every input: there is no other way to fail. No parameter of these functions changes
+ * later: what is new comes as a new function.
+ *
+ * What a caller must see to, of every function:
+ *   - A pointer with a length is valid for that many elements, for reading, or, where it is called a room, for reading and writing. With length
+ *     0 nothing is read or written there, and it may be NULL. With any other length it must not be NULL.
+ *   - What is written (a room, *length, *group) overlaps no other argument. What is only read may overlap.
+ *   - A list is aligned as int32_t is, a length as size_t, a group as uint32_t.
+ *   - Nobody writes to an argument until the function has returned, and nobody reads what it writes.
+ * Nothing else is read or written: there is no state, no memory is asked for, and no pointer is kept. Any number of threads may call at once.
+ *
+ * Stack, by the frames of the compiled code when this was written and how deep its calls can nest (not proved): intake_normalise at most 112 kB, the
+ * others at most 11 kB.
+ */
+#ifndef INTAKE_H
+#define INTAKE_H
+
+#include <stddef.h>
+#include <stdint.h>
+
+#ifdef __cplusplus
+extern "C" {
+#endif
+
+/* The numbers. From INTAKE_TOO_LONG on it is a refusal. */
+enum {
+    INTAKE_DONE = 0,            /* matched; of the judge, obeys; of the normaliser, done */
+    INTAKE_NO_MATCH = 1,        /* no match; of the judge, does not obey */
+    INTAKE_TOO_LONG = 2,        /* template over INTAKE_TEMPLATE_MOST bytes */
+    INTAKE_MISSING = 3,         /* bytes end where a kind or a body is due */
+    INTAKE_BAD_KIND = 4,        /* kind unknown, or not allowed at that place */
+    INTAKE_BAD_COUNT = 5,       /* n outside its range */
+    INTAKE_BAD_BOUNDS = 6,      /* lower above upper, or min or max outside its range, or min above max */
+    INTAKE_TOO_DEEP = 7,        /* element template at depth 9 */
+    INTAKE_TOO_MANY = 8,        /* a 33rd member, a 65th leaf, or a second any-elements in one set of or permutation */
+    INTAKE_LENGTH_CLASH = 9,    /* superset with length min below n, or subset with length max above n */
+    INTAKE_LEFT_OVER = 10,      /* bytes left after the template */
+    INTAKE_LIST_TOO_LONG = 11,  /* list over INTAKE_LIST_MOST elements */
+    INTAKE_ROOM_TOO_SHORT = 12, /* room shorter than the list, or than the normal form */
+    INTAKE_OTHER_LENGTH = 13    /* offered witness not as long as the list */
+};
+
+/* The limits, in bytes, elements and bytes. A room of INTAKE_LIST_MOST bytes is enough for every witness, one of INTAKE_FORM_MOST for every form. */
+#define INTAKE_TEMPLATE_MOST 4096
+#define INTAKE_LIST_MOST 32
+#define INTAKE_FORM_MOST 578
+
+/*
+ * Does the list match the template?
+ * Reads template_length bytes at template_bytes and list_length integers at list.
+ * Writes, with INTAKE_DONE only, the first list_length bytes of the room: the first witness in byte order, for each element the member that it is
+ * given to. No other byte of the room changes, and with any other number none does.
+ * Gives every number but INTAKE_OTHER_LENGTH.
+ */
+uint8_t intake_match(const uint8_t *template_bytes, size_t template_length,
+                     const int32_t *list, size_t list_length,
+                     uint8_t *room, size_t room_length);
+
+/*
+ * Does the offered witness obey: INTAKE_DONE, INTAKE_NO_MATCH, or a refusal.
+ * Reads template_length bytes at template_bytes, list_length integers at list and witness_length bytes at witness.
+ * Writes nothing.
+ * Gives every number but INTAKE_ROOM_TOO_SHORT.
+ */
+uint8_t intake_judge(const uint8_t *template_bytes, size_t template_length,
+                     const int32_t *list, size_t list_length,
+                     const uint8_t *witness, size_t witness_length);
+
+/*
+ * The normal form of one element template, so that two that match the same integers are the same bytes.
+ * Reads template_length bytes at template_bytes.
+ * Writes *length, always: with INTAKE_DONE how many bytes the form has, else 0. length must not be NULL.
+ * Writes, with INTAKE_DONE only, the first *length bytes of the room: the form. No other byte of the room changes, and with any other number none does.
+ * Never gives INTAKE_NO_MATCH, INTAKE_LENGTH_CLASH, INTAKE_LIST_TOO_LONG or INTAKE_OTHER_LENGTH.
+ */
+uint8_t intake_normalise(const uint8_t *template_bytes, size_t template_length,
+                         uint8_t *room, size_t room_length, size_t *length);
+
+/*
+ * Why does the list not match? The number is the one that intake_match gives with a room that is long enough.
+ * Reads template_length bytes at template_bytes and list_length integers at list.
+ * Writes *group, always: with INTAKE_NO_MATCH, where the template is a superset or a subset whose length attribute is met, the group that is the
+ * reason, of a superset bit m for member m, of a subset bit e for element e; in every other case 0. group must not be NULL.
+ * Never gives INTAKE_ROOM_TOO_SHORT or INTAKE_OTHER_LENGTH.
+ */
+uint8_t intake_why_not(const uint8_t *template_bytes, size_t template_length,
+                       const int32_t *list, size_t list_length, uint32_t *group);
+
+#ifdef __cplusplus
+}
+#endif
+
+#endif
