@@ -1,0 +1,143 @@
+//! Intake from Rust: whether a list of integers matches a rule, by which assignment, and why not; and the normal form of an element template.
+//!
+//! The four functions are those of `include/intake.h`, proved in the repository's crate `exports`. This wrapper is not proved. It lends the rooms
+//! itself, and its types leave no way to hand over a wrong length: a [`List`] has at most [`LIST_MOST`] elements, and an [`Offer`] one member for
+//! each element of its list. So the numbers 11, 12 and 13 (list too long, room too short, offered witness of another length) are never given.
+//! A rule is any run of bytes; every one gets an answer.
+//!
+//! ```
+//! use intake::{judge, match_list, Answer, List, Verdict};
+//!
+//! let rule = [0x11, 2, 0x03, 0x01, 1, 0, 0, 0]; // set of {any value, 1}
+//! let list = List::new(&[1, 5]).unwrap();
+//! match match_list(&rule, list) {
+//!     Answer::Matched(witness) => assert_eq!(*witness, [1, 0]),
+//!     other => panic!("{other:?}"),
+//! }
+//! assert_eq!(judge(&rule, list.offer(&[0, 1]).unwrap()), Verdict::DoesNotObey);
+//! ```
+//!
+//! The static library is for x86-64 Linux: `rt staticlib exports` writes it to `target/staticlib`, and `INTAKE_LIB_DIR` names another folder.
+#![deny(unsafe_code)]
+#![warn(missing_docs)]
+
+#[allow(unsafe_code)]
+mod library;
+mod parts;
+
+pub use parts::{Form, Group, List, Offer, Refusal, Witness};
+use std::num::NonZeroU32;
+
+/// A rule of more bytes is refused with [`Refusal::TooLong`].
+pub const TEMPLATE_MOST: usize = 4096;
+
+/// A list has at most so many elements.
+pub const LIST_MOST: usize = 32;
+
+/// A normal form has at most so many bytes.
+pub const FORM_MOST: usize = 578;
+
+const DONE: u8 = 0;
+const NO_MATCH: u8 = 1;
+
+/// What the matcher says of a list.
+#[derive(Clone, Copy, Debug, PartialEq, Eq)]
+pub enum Answer {
+    /// The list matches, by this witness.
+    Matched(Witness),
+    /// No assignment of elements to members obeys the rule.
+    NoMatch,
+    /// The bytes are no rule.
+    Refused(Refusal),
+}
+
+/// What the judge says of an offered witness.
+#[derive(Clone, Copy, Debug, PartialEq, Eq)]
+pub enum Verdict {
+    /// The assignment obeys the rule, whether or not it is the first that does.
+    Obeys,
+    /// It does not.
+    DoesNotObey,
+    /// The bytes are no rule.
+    Refused(Refusal),
+}
+
+/// Why a list does not match.
+#[derive(Clone, Copy, Debug, PartialEq, Eq)]
+pub enum Why {
+    /// It matches.
+    Matched,
+    /// It does not, and no group is the reason: the rule is a record of or a set of, or the length attribute is not met.
+    NoMatch,
+    /// The rule is a superset, and these members together match fewer elements than they are.
+    Members(Group),
+    /// The rule is a subset, and these elements together are matched by fewer members than they are.
+    Elements(Group),
+    /// The bytes are no rule.
+    Refused(Refusal),
+}
+
+/// Whether the list matches the rule, and by which witness: the first in byte order.
+pub fn match_list(rule: &[u8], list: List<'_>) -> Answer {
+    let mut room = [0; LIST_MOST];
+    match library::match_list(rule, list.elements(), &mut room) {
+        DONE => Answer::Matched(Witness::at_front(room, list)),
+        NO_MATCH => Answer::NoMatch,
+        number => Answer::Refused(Refusal::of(number)),
+    }
+}
+
+/// Whether the offered witness obeys the rule, for the list that it is offered for.
+pub fn judge(rule: &[u8], offer: Offer<'_>) -> Verdict {
+    match library::judge(rule, offer.list().elements(), offer.members()) {
+        DONE => Verdict::Obeys,
+        NO_MATCH => Verdict::DoesNotObey,
+        number => Verdict::Refused(Refusal::of(number)),
+    }
+}
+
+/// The normal form of one element template. Two that match the same integers have the same form.
+///
+/// ```
+/// let list_of_three = [4, 3, 1, 3, 0, 0, 0, 1, 1, 0, 0, 0, 1, 2, 0, 0, 0]; // (3, 1, 2)
+/// let form = intake::normalise(&list_of_three).unwrap();
+/// assert_eq!(*form, [2, 1, 0, 0, 0, 3, 0, 0, 0]); // the range 1 to 3
+/// ```
+pub fn normalise(template: &[u8]) -> Result<Form, Refusal> {
+    let mut room = [0; FORM_MOST];
+    let (number, length) = library::normalise(template, &mut room);
+    match number {
+        DONE => Ok(Form::at_front(room, length)),
+        number => Err(Refusal::of(number)),
+    }
+}
+
+/// Why the list does not match the rule: of a superset or a subset the group that is the reason.
+///
+/// ```
+/// use intake::{why_not, List, Why};
+///
+/// let rule = [0x13, 3, 1, 1, 0, 0, 0, 1, 2, 0, 0, 0, 1, 3, 0, 0, 0]; // subset(1, 2, 3)
+/// match why_not(&rule, List::new(&[1, 2, 1]).unwrap()) {
+///     Why::Elements(group) => assert!(group.places().eq([0, 2])), // both can only be given to member 0
+///     other => panic!("{other:?}"),
+/// }
+/// ```
+pub fn why_not(rule: &[u8], list: List<'_>) -> Why {
+    let (number, mask) = library::why_not(rule, list.elements());
+    match (number, NonZeroU32::new(mask)) {
+        (DONE, _) => Why::Matched,
+        (NO_MATCH, None) => Why::NoMatch,
+        (NO_MATCH, Some(mask)) if is_subset(rule) => Why::Elements(Group::of(mask)),
+        (NO_MATCH, Some(mask)) => Why::Members(Group::of(mask)),
+        (number, _) => Why::Refused(Refusal::of(number)),
+    }
+}
+
+/// Whether the body of an accepted rule is a subset. It stands at the front, or after a length attribute of three bytes.
+fn is_subset(rule: &[u8]) -> bool {
+    const LENGTH: u8 = 0x30;
+    const SUBSET: u8 = 0x13;
+    let body = if rule.first() == Some(&LENGTH) { 3 } else { 0 };
+    rule.get(body) == Some(&SUBSET)
+}

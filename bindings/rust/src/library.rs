@@ -1,0 +1,104 @@
+//! The functions of the static library, and the only place with `unsafe`. What each reads and writes is said in `include/intake.h`.
+//!
+//! Of every call below: each pointer comes from a slice or an array and stands beside its length, so it is valid for it and aligned. What is
+//! written is borrowed exclusively, so it overlaps nothing else and nobody looks at it meanwhile. No pointer is kept.
+
+use crate::{FORM_MOST, LIST_MOST};
+
+extern "C" {
+    fn intake_match(
+        template: *const u8,
+        template_length: usize,
+        list: *const i32,
+        list_length: usize,
+        room: *mut u8,
+        room_length: usize,
+    ) -> u8;
+
+    fn intake_judge(
+        template: *const u8,
+        template_length: usize,
+        list: *const i32,
+        list_length: usize,
+        witness: *const u8,
+        witness_length: usize,
+    ) -> u8;
+
+    fn intake_normalise(
+        template: *const u8,
+        template_length: usize,
+        room: *mut u8,
+        room_length: usize,
+        length: *mut usize,
+    ) -> u8;
+
+    fn intake_why_not(
+        template: *const u8,
+        template_length: usize,
+        list: *const i32,
+        list_length: usize,
+        group: *mut u32,
+    ) -> u8;
+}
+
+/// The number; with 0 the witness is at the front of the room.
+pub fn match_list(template: &[u8], list: &[i32], room: &mut [u8; LIST_MOST]) -> u8 {
+    // SAFETY: as said above.
+    unsafe {
+        intake_match(
+            template.as_ptr(),
+            template.len(),
+            list.as_ptr(),
+            list.len(),
+            room.as_mut_ptr(),
+            room.len(),
+        )
+    }
+}
+
+/// The number.
+pub fn judge(template: &[u8], list: &[i32], witness: &[u8]) -> u8 {
+    // SAFETY: as said above.
+    unsafe {
+        intake_judge(
+            template.as_ptr(),
+            template.len(),
+            list.as_ptr(),
+            list.len(),
+            witness.as_ptr(),
+            witness.len(),
+        )
+    }
+}
+
+/// The number, and how many bytes at the front of the room are the form.
+pub fn normalise(template: &[u8], room: &mut [u8; FORM_MOST]) -> (u8, usize) {
+    let mut length = 0;
+    // SAFETY: as said above; `length` is a local of its own.
+    let number = unsafe {
+        intake_normalise(
+            template.as_ptr(),
+            template.len(),
+            room.as_mut_ptr(),
+            room.len(),
+            &mut length,
+        )
+    };
+    (number, length)
+}
+
+/// The number, and the mask of the group.
+pub fn why_not(template: &[u8], list: &[i32]) -> (u8, u32) {
+    let mut group = 0;
+    // SAFETY: as said above; `group` is a local of its own.
+    let number = unsafe {
+        intake_why_not(
+            template.as_ptr(),
+            template.len(),
+            list.as_ptr(),
+            list.len(),
+            &mut group,
+        )
+    };
+    (number, group)
+}

@@ -1,0 +1,136 @@
+//! The wrapper on the static library: the examples of README.md, each refusal, and the lengths that the types keep out.
+
+use intake::{judge, match_list, normalise, why_not};
+use intake::{Answer, List, Refusal, Verdict, Why, FORM_MOST, LIST_MOST, TEMPLATE_MOST};
+
+/// set of {any value, 1}
+const ANY_AND_ONE: [u8; 8] = [0x11, 2, 3, 1, 1, 0, 0, 0];
+
+fn list(elements: &[i32]) -> List<'_> {
+    List::new(elements).unwrap()
+}
+
+fn witness(rule: &[u8], elements: &[i32]) -> Vec<u8> {
+    match match_list(rule, list(elements)) {
+        Answer::Matched(witness) => witness.to_vec(),
+        other => panic!("{other:?}"),
+    }
+}
+
+fn judged(rule: &[u8], elements: &[i32], members: &[u8]) -> Verdict {
+    judge(rule, list(elements).offer(members).unwrap())
+}
+
+fn single(value: i32) -> Vec<u8> {
+    [&[1], &value.to_le_bytes()[..]].concat()
+}
+
+fn range(lower: i32, upper: i32) -> Vec<u8> {
+    [&[2], &lower.to_le_bytes()[..], &upper.to_le_bytes()[..]].concat()
+}
+
+/// An element template or a body of this kind with these parts.
+fn of(kind: u8, parts: &[Vec<u8>]) -> Vec<u8> {
+    [vec![kind, parts.len() as u8], parts.concat()].concat()
+}
+
+#[test]
+fn the_first_witness_is_given_and_passes() {
+    assert_eq!(witness(&ANY_AND_ONE, &[1, 5]), [1, 0]);
+    assert_eq!(judged(&ANY_AND_ONE, &[1, 5], &[1, 0]), Verdict::Obeys);
+    assert_eq!(judged(&ANY_AND_ONE, &[1, 5], &[0, 1]), Verdict::DoesNotObey);
+    assert_eq!(match_list(&ANY_AND_ONE, list(&[5, 5])), Answer::NoMatch);
+}
+
+#[test]
+fn an_empty_list_has_an_empty_witness() {
+    let nothing = of(0x10, &[]);
+    assert_eq!(witness(&nothing, &[]), []);
+    assert_eq!(judged(&nothing, &[], &[]), Verdict::Obeys);
+}
+
+#[test]
+fn a_list_of_32_is_taken_and_one_of_33_can_not_be_made() {
+    let rule = of(0x12, &[single(7)]);
+    let mut elements = vec![0; LIST_MOST];
+    elements[31] = 7;
+    assert_eq!(witness(&rule, &elements).len(), LIST_MOST);
+    elements.push(0);
+    assert_eq!(List::new(&elements), None);
+}
+
+#[test]
+fn an_offer_has_one_member_for_each_element() {
+    assert_eq!(list(&[1, 5]).offer(&[0]), None);
+    assert_eq!(list(&[1, 5]).offer(&[0, 1, 2]), None);
+    assert_eq!(list(&[]).offer(&[0]), None);
+}
+
+#[test]
+fn each_refusal_has_its_number() {
+    let mut deep = vec![3];
+    for _ in 0..8 {
+        deep = of(4, &[deep]);
+    }
+    let clash = [vec![0x30, 0, 32], of(0x12, &[single(1)])].concat();
+    let rows = [
+        (vec![0; TEMPLATE_MOST + 1], Refusal::TooLong, 2),
+        (vec![], Refusal::Missing, 3),
+        (vec![0x99], Refusal::BadKind, 4),
+        (vec![0x12, 0], Refusal::BadCount, 5),
+        (of(0x10, &[range(2, 1)]), Refusal::BadBounds, 6),
+        (of(0x10, &[of(5, &[deep])]), Refusal::TooDeep, 7),
+        (
+            of(0x11, &[vec![0x20, 0, 1], vec![0x20, 0, 1]]),
+            Refusal::TooMany,
+            8,
+        ),
+        (clash, Refusal::LengthClash, 9),
+        ([of(0x10, &[]), vec![0]].concat(), Refusal::LeftOver, 10),
+    ];
+    for (rule, refusal, number) in rows {
+        assert_eq!(match_list(&rule, list(&[1])), Answer::Refused(refusal));
+        assert_eq!(judged(&rule, &[1], &[0]), Verdict::Refused(refusal));
+        assert_eq!(why_not(&rule, list(&[1])), Why::Refused(refusal));
+        assert_eq!(refusal.number(), number);
+        assert!(!refusal.to_string().is_empty());
+    }
+}
+
+#[test]
+fn equal_sets_have_one_form() {
+    let form = normalise(&of(4, &[single(3), single(1), single(2)])).unwrap();
+    assert_eq!(*form, range(1, 3)[..]);
+    assert_eq!(normalise(&form), Ok(form));
+    assert_eq!(normalise(&of(5, &[of(5, &[range(1, 3)])])), Ok(form));
+    assert_eq!(normalise(&[1, 2]), Err(Refusal::Missing));
+    assert_eq!(normalise(&[3, 3]), Err(Refusal::LeftOver));
+}
+
+#[test]
+fn the_longest_form_fits() {
+    let ranges: Vec<_> = (0..64).map(|i| range(10 * i, 10 * i + 5)).collect();
+    let form = normalise(&of(4, &ranges)).unwrap();
+    assert_eq!(form.len(), FORM_MOST);
+    assert_eq!(*form, of(4, &ranges)[..]);
+}
+
+#[test]
+fn a_group_is_of_members_or_of_elements() {
+    let sensors = of(0x12, &[range(10, 19), single(12), range(20, 29)]);
+    match why_not(&sensors, list(&[12, 25])) {
+        Why::Members(group) => assert!(group.places().eq([0, 1]) && group.mask() == 3),
+        other => panic!("{other:?}"),
+    }
+    let few = of(0x13, &[single(1), single(2), single(3)]);
+    let few_by_length = [vec![0x30, 0, 3], few.clone()].concat();
+    for rule in [&few, &few_by_length] {
+        match why_not(rule, list(&[1, 2, 1])) {
+            Why::Elements(group) => assert!(group.places().eq([0, 2])),
+            other => panic!("{other:?}"),
+        }
+    }
+    assert_eq!(why_not(&sensors, list(&[12, 13, 25])), Why::Matched);
+    assert_eq!(why_not(&ANY_AND_ONE, list(&[5, 5])), Why::NoMatch);
+    assert_eq!(why_not(&few_by_length, list(&[1, 2, 3, 4])), Why::NoMatch);
+}
