@@ -1,7 +1,7 @@
--- A line put together: each part after the one before it, with how many bytes there are by then. Assumes nothing.
+-- A line put together: each part after the one before it, with how many bytes there are by then; and how long a line is. Assumes nothing.
 use mathlib.Core.Path.{_≡_, refl, sym, ap, _∙_}
 use mathlib.Core.List.{List, [], _∷_, _++_, append-assoc, append-nil}
-use Prim.Native.Nat.{ℕ, suc, _+_, _*_, _≤_, _<_}
+use Prim.Native.Nat.{ℕ, zero, suc, _+_, _*_, _≤_, _<_}
 use native.Mathlib.Omega.{arith}
 use native.Mathlib.Numerals.{add-one}
 use native.Mathlib.Nat.{add-zero}
@@ -23,6 +23,14 @@ byte-next b h = let l = length-next b in let d : length (decimal b) ≤ 3 = leng
 
 pub few-next : (n : ℕ) → n ≤ 32 → length (spaceThen n) ≤ 3
 few-next n h = let l = length-next n in let d : length (decimal n) ≤ 2 = length-decimal 1 n (omega arith) in omega arith
+
+pub digit-next : (n : ℕ) → n < 10 → length (spaceThen n) ≤ 2
+digit-next n h = let l = length-next n in let d : length (decimal n) ≤ 1 = length-decimal 0 n (omega arith) in omega arith
+
+-- the count of a list's elements, by that count
+pub count-next : (n : ℕ) → n ≤ 32 → length (spaceThen n) ≤ 2 + n
+count-next zero h = digit-next 0 (omega arith)
+count-next (suc n) h = let f = few-next (suc n) h in omega arith
 
 pub number-few : (n : ℕ) → n < 100000 → length (decimal n) ≤ 5
 number-few n h = length-decimal 4 n h
@@ -168,6 +176,14 @@ pub line-is : (k a n : ℕ) (w : List ℕ) → (((decimal k ++ spaceThen a) ++ s
 unfolding line spaced
 line-is k a n w = simp append-assoc
 
+pub line-length : (k a n : ℕ) (w : List ℕ) → length (line k (a ∷ n ∷ w)) ≡ length (decimal k) + length (spaceThen a) + length (spaceThen n) + length (spaced w) + 1
+line-length k a n w =
+    let whole = sym (ap length (line-is k a n w)) ∙ length-append (((decimal k ++ spaceThen a) ++ spaceThen n) ++ spaced w) (10 ∷ []) in
+    let with-count = length-append ((decimal k ++ spaceThen a) ++ spaceThen n) (spaced w) in
+    let with-answer = length-append (decimal k ++ spaceThen a) (spaceThen n) in
+    let first = length-append (decimal k) (spaceThen a) in
+    omega arith
+
 pub line-wrote : (o : List ℕ) (k a n : ℕ) (w : List ℕ) (most : ℕ) (o′ : List ℕ) (p : ℕ) → Built o (((decimal k ++ spaceThen a) ++ spaceThen n) ++ spaced w) most o′ p → most < length o
     → Wrote (line k (a ∷ n ∷ w)) o (set o′ p 10) (p + 1)
 line-wrote o k a n w most o′ p built room =
@@ -182,3 +198,10 @@ line-wrote o k a n w most o′ p built room =
       bytes = last .bytes ∙ ap (λ (l : List ℕ). placed 0 l o) is ∙ placed-front o (line k (a ∷ n ∷ w));
       count = omega arith;
     }
+
+-- what was written is within the buffer
+pub wrote-inside : (l before after : List ℕ) (wrote : ℕ) → Wrote l before after wrote → wrote ≤ length after
+wrote-inside l before after wrote w =
+    let size = ap length (w .bytes) ∙ length-append l (drop (length l) before) in
+    let count = w .count in
+    omega arith

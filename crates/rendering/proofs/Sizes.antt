@@ -1,0 +1,138 @@
+-- How long a list's line is, by the bytes of the list: with a number of at most five digits no more than five times as long. Assumes nothing.
+use mathlib.Core.Path.{_≡_, refl, sym, ap, ap₂, _∙_}
+use mathlib.Core.Bool.{Bool, true, false, _&&_, _||_}
+use mathlib.Core.List.{List, [], _∷_, _++_}
+use mathlib.Core.Logic.{⊎-elim}
+use Prim.Native.Nat.{ℕ, zero, suc, _+_, _*_, _≤_, _<_}
+use native.Mathlib.Omega.{arith}
+use borrow.Author.Tests.{eqb-true, ltb-false}
+use lib.Dec.{eqb, ltb}
+use lib.ListN.{length, take, drop, length-append, length-replicate}
+use lib.Seq.{take-at}
+use lib.IntN.{ℤ}
+use Rattle.facts.proofs.Cases.{by-test, and-left, and-right, one-of}
+use Rattle.grammar.specs.Element.{Elem}
+use Rattle.grammar.specs.Leaf.{Leaf, leafHead}
+use Rattle.grammar.specs.Matches.{matches}
+use Rattle.grammar.specs.Members.{memberHits}
+use Rattle.grammar.specs.Read.{Read, refuse, got, orRefuse, refuseOr, verdict}
+use Rattle.grammar.specs.Template.{Template, template, membersOf}
+use Rattle.grammar.specs.Whole.{readTemplate}
+use Rattle.grammar.proofs.MemberLimit.{accepted-few}
+use Rattle.grammar.proofs.ReadApart.{clash}
+use Rattle.grammar.proofs.RefusalNumbers.{Cases, isRefused, isRead, read-cases}
+use Rattle.matching.specs.Answer.{Given, given, written, matchRead, matchAnswer}
+use Rattle.matching.specs.Obeys.{spare, rightBytes, noneTwice, bodyMet, lengthMet, obeysBy, obeys}
+use Rattle.matching.specs.Search.{Maybe, nothing, just, firstWitness}
+use Rattle.matching.proofs.Answers.{few-members, reads}
+use Rattle.matching.proofs.FirstWitness.{first-witness, obeys-size}
+use Rattle.matching.proofs.RulesByBlocks.{hits-low}
+use Rattle.lines.specs.Line.{decimal, spaceThen, spaced, line}
+use Rattle.lines.proofs.Lines.{byte-next, digit-next, count-next, line-length}
+use Rattle.stream.specs.Input.{recordFault, afterTemplate, templateIn, reached}
+use Rattle.stream.proofs.Rests.{list-read}
+use Rattle.intake_lines.specs.Output.{emptyRoom, answered, listLine, go, turn}
+use Rattle.rendering.proofs.Steps.{turn-went}
+
+-- ---- where the template is reached
+
+pub record Reached (s t : List ℕ) : Type 0 where
+  pub short : length s ≤ 65536
+  pub accepted : verdict (readTemplate leafHead t) ≡ 0
+
+pub reached-inv : (s t r : List ℕ) → reached s ≡ got t r → Reached s t
+unfolding reached
+reached-inv s t r e = size (ltb 65536 (length s)) refl e
+  where
+    own : (n : ℕ) → verdict (readTemplate leafHead (templateIn s)) ≡ n → refuseOr n (got (templateIn s) (drop (afterTemplate s) s)) ≡ got t r → verdict (readTemplate leafHead t) ≡ 0
+    own (suc n) f q = absurd (clash q)
+    own zero f q = let same : templateIn s ≡ t = cc in ap (λ (b : List ℕ). verdict (readTemplate leafHead b)) (sym same) ∙ f
+
+    rest : (b : Bool) → orRefuse b 3 (refuseOr (verdict (readTemplate leafHead (templateIn s))) (got (templateIn s) (drop (afterTemplate s) s))) ≡ got t r → verdict (readTemplate leafHead t) ≡ 0
+    rest true q = absurd (clash q)
+    rest false q = own (verdict (readTemplate leafHead (templateIn s))) refl q
+
+    front : (n : ℕ) → refuseOr n (orRefuse (ltb (length s) (afterTemplate s)) 3 (refuseOr (verdict (readTemplate leafHead (templateIn s))) (got (templateIn s) (drop (afterTemplate s) s)))) ≡ got t r
+        → verdict (readTemplate leafHead t) ≡ 0
+    front (suc n) q = absurd (clash q)
+    front zero q = rest (ltb (length s) (afterTemplate s)) q
+
+    size : (b : Bool) → ltb 65536 (length s) ≡ b → orRefuse b 2 (refuseOr (recordFault 0x50 3 s) (orRefuse (ltb (length s) (afterTemplate s)) 3 (refuseOr (verdict (readTemplate leafHead (templateIn s))) (got (templateIn s) (drop (afterTemplate s) s))))) ≡ got t r → Reached s t
+    size true f q = absurd (clash q)
+    size false f q = record { short = ltb-false 65536 (length s) f; accepted = front (recordFault 0x50 3 s) q }
+
+-- ---- the bytes of a witness
+
+right-size : (es : List (Elem Leaf)) (xs : List ℤ) (w : List ℕ) → length es ≤ 32 → rightBytes matches es xs w ≡ true → length (spaced w) ≤ 4 * length w
+unfolding rightBytes spaced
+right-size es [] [] few h = omega arith
+right-size es [] (b ∷ w) few h = absurd (mathlib.Core.Bool.true≢false (sym h))
+right-size es (x ∷ xs) [] few h = absurd (mathlib.Core.Bool.true≢false (sym h))
+right-size es (x ∷ xs) (b ∷ w) few h =
+    let here = one-of (eqb b spare) (memberHits matches es b x) (and-left (eqb b spare || memberHits matches es b x) (rightBytes matches es xs w) h) in
+    let small : b < 256 = ⊎-elim (λ (s : eqb b spare ≡ true). let q = eqb-true b spare s in omega arith) (λ (s : memberHits matches es b x ≡ true). let q = hits-low matches es b x s in omega arith) here in
+    let ih = right-size es xs w few (and-right (eqb b spare || memberHits matches es b x) (rightBytes matches es xs w) h) in
+    let first = byte-next b small in
+    let l = length-append (spaceThen b) (spaced w) in
+    omega arith
+
+obeys-bytes : (t : List ℕ) (s : Template Leaf) (xs : List ℤ) (w : List ℕ) → readTemplate leafHead t ≡ got s [] → obeys s xs w ≡ true → length (spaced w) ≤ 4 * length w
+unfolding obeysBy
+obeys-bytes t (template a b) xs w q h =
+    right-size (membersOf b) xs w (accepted-few leafHead t a b q)
+    (and-left (rightBytes matches (membersOf b) xs w) (noneTwice (length (membersOf b)) w && (bodyMet b w && lengthMet a (length xs))) h)
+
+-- ---- the line of a list
+
+template-short : (t : List ℕ) (s : Template Leaf) → readTemplate leafHead t ≡ got s [] → length t ≤ 4096
+unfolding readTemplate
+template-short t s q =
+    by-test (ltb 4096 (length t))
+    (λ (e : ltb 4096 (length t) ≡ true). absurd (clash (rw e at q)))
+    (λ (e : ltb 4096 (length t) ≡ false). ltb-false 4096 (length t) e)
+
+module _ (k n : ℕ) (few : n ≤ 32) where
+  matched-size : (w : List ℕ) → length w ≡ n → length (spaced w) ≤ 4 * length w → length (answered k n (given 0 (w ++ drop (length w) emptyRoom))) ≤ length (decimal k) + 5 + 5 * n
+  unfolding answered
+  matched-size w l small =
+      let front : take n (w ++ drop (length w) emptyRoom) ≡ w = take-at w (drop (length w) emptyRoom) n l in
+      let size = ap (λ (v : List ℕ). length (line k (0 ∷ n ∷ v))) front ∙ line-length k 0 n w in
+      let answer = digit-next 0 (omega arith) in
+      let count = count-next n few in
+      omega arith
+
+  unmatched-size : (room : List ℕ) → length (answered k n (given 1 room)) ≤ length (decimal k) + 5 + 5 * n
+  unfolding answered spaced
+  unmatched-size room =
+      let size = line-length k 1 n [] in
+      let answer = digit-next 1 (omega arith) in
+      let count = count-next n few in
+      omega arith
+
+pub list-line-size : (t : List ℕ) (k : ℕ) (xs : List ℤ) → verdict (readTemplate leafHead t) ≡ 0 → length xs ≤ 32 → length (listLine t k xs) ≤ length (decimal k) + 5 + 5 * length xs
+unfolding verdict listLine matchRead written
+list-line-size t k xs accepted few = by-reading (read-cases t)
+  where
+    by-witness : (s : Template Leaf) → readTemplate leafHead t ≡ got s [] → (m : Maybe) → firstWitness s xs ≡ m
+        → length (answered k (length xs) (written m emptyRoom)) ≤ length (decimal k) + 5 + 5 * length xs
+    by-witness s q nothing e = unmatched-size k (length xs) few emptyRoom
+    by-witness s q (just w) e =
+        let holds = first-witness s xs w (few-members t s q) e .holds in
+        matched-size k (length xs) few w (obeys-size s xs w holds) (obeys-bytes t s xs w q holds)
+
+    by-reading : Cases (readTemplate leafHead t) → length (answered k (length xs) (matchAnswer t xs emptyRoom)) ≤ length (decimal k) + 5 + 5 * length xs
+    by-reading (isRefused r q more) = let z = sym accepted ∙ ap verdict q in absurd (omega arith)
+    by-reading (isRead s q) =
+        let answer : matchAnswer t xs emptyRoom ≡ written (firstWitness s xs) emptyRoom = reads t xs emptyRoom (template-short t s q, few) few ∙ ap (λ o. matchRead o xs emptyRoom) q in
+        rw answer (by-witness s q (firstWitness s xs) refl)
+
+-- ---- a turn
+
+pub turn-size : (t : List ℕ) (k : ℕ) (s l s′ : List ℕ) → verdict (readTemplate leafHead t) ≡ 0 → length (decimal k) ≤ 5 → turn t k s ≡ go l s′ → length l + 5 * length s′ ≤ 5 * length s
+turn-size t k s l s′ accepted short e =
+    let w = turn-went t k s l s′ e in
+    let r = list-read s (w .xs) s′ (w .list) in
+    let rest = r .rest in
+    let size = list-line-size t k (w .xs) accepted (r .few) in
+    let same = ap length (w .prints) in
+    omega arith
