@@ -1,17 +1,14 @@
 // The program of document 01: it reads a template and lists from standard input, and prints a line for each list.
+// Where it can't read, or can't print, it says so on standard error.
 ghost use mathlib.Core.Path.{_≡_};
-ghost use Prim.Native.Nat.{_+_, _≤_};
+ghost use mathlib.Core.Bool.{true};
+ghost use Prim.Native.Nat.{_≤_};
 ghost use lib.ListN.{length};
-ghost use Rattle.plans.specs.Plans.{PlanOf};
-use format::TEMPLATE_SIZE;
-use intake_lines::answer_next;
-use intake_lines::open_input;
+ghost use Rattle.io.specs.Counts.{Counts};
+use libc::STDERR_FILENO;
 use libc::STDIN_FILENO;
 use libc::STDOUT_FILENO;
-use plans::Plan;
-
-// No line is longer.
-const LINE: usize = 256;
+use rendering::render;
 
 // One byte more than an input may have, so that a longer one is seen to be longer.
 fn input_buffer() -> [u8; 65537]
@@ -20,56 +17,66 @@ fn input_buffer() -> [u8; 65537]
     [0; 65537]
 }
 
-// Writes out what is collected in front of the buffer where there is no room left for a line, and says how much is collected then.
-fn flushed(out: &[u8], filled: usize) -> usize
-    requires { ⌜ (filled ≤ length (now out)) × (256 ≤ length (now out)) ⌝ }
-    ensures { λ r. ⌜ r + 256 ≤ length (now (out .entry)) ⌝ }
+// What `render` asks for, for the longest input that is read: five bytes for each of its bytes, and 256.
+fn output_buffer() -> [u8; 327941]
+    ensures { λ r. ⌜ 327941 ≡ length r ⌝ }
 {
-    if out.len() - filled < LINE {
-        io::write_all(STDOUT_FILENO, &out[..filled]);
-        return 0;
-    }
-    filled
+    [0; 327941]
 }
 
-// Prints the lines of the lists from `first` on, by the plan of the template. They are collected in the buffer, so that not every line is a call of the system.
-fn print_lists(template: &[u8], plan: Plan, input: &[u8], first: usize, out: &mut [u8])
-    requires { ⌜ PlanOf (now template) plan × (first ≤ length (now input)) × (length (now input) ≤ 65537) × (256 ≤ length (now out)) ⌝ }
+// How many bytes were read to the front of a buffer, and whether reading failed before the input ended.
+struct Taken {
+    n: usize,
+    failed: bool,
+}
+
+// Reads once. No byte is read at the end of the input, and where reading fails.
+fn read_once(part: &mut [u8]) -> Taken
+    ensures { λ r. ⌜ (r .n ≤ length (now (part .exit))) × (r .failed ≡ true → r .n ≡ 0) ⌝ }
 {
-    let mut at = first;
-    let mut number: u32 = 1;
-    let mut filled: usize = 0;
-    loop {
-        let turn = answer_next(template, plan, input, at, number, &mut out[filled..]);
-        let end = filled + turn.wrote;
-        if !turn.more {
-            io::write_all(STDOUT_FILENO, &out[..end]);
-            return;
+    let got = libc::read(STDIN_FILENO, part);
+    Taken {
+        n: io::count(got, part),
+        failed: got < 0,
+    }
+}
+
+// Reads until the input ends, reading fails or the buffer is full.
+fn read_input(buf: &mut [u8]) -> Taken
+    ensures { λ r. ⌜ Counts (r .n) (now (buf .exit)) ⌝ }
+{
+    let mut n: usize = 0;
+    while n < buf.len() {
+        let more = read_once(&mut buf[n..]);
+        if more.n == 0 {
+            return Taken {
+                n,
+                failed: more.failed,
+            };
         }
-        at = turn.next;
-        number += 1;
-        filled = flushed(out, end);
+        n += more.n;
     }
+    Taken { n, failed: false }
 }
 
-// Prints the line of a refused input, or the lines of its lists.
-fn print_all(input: &[u8], out: &mut [u8])
-    requires { ⌜ (length (now input) ≤ 65537) × (256 ≤ length (now out)) ⌝ }
+// Prints the output of the input.
+fn print_output(input: &[u8])
+    requires { ⌜ length (now input) ≤ 65537 ⌝ }
 {
-    let head = open_input(input, out);
-    if !head.more {
-        let end = head.wrote;
-        io::write_all(STDOUT_FILENO, &out[..end]);
-        return;
+    let mut out = output_buffer();
+    let end = render(input, &mut out);
+    if !io::write_all(STDOUT_FILENO, &out[..end]) {
+        io::write_all(STDERR_FILENO, b"intake: standard output can't be written\n");
     }
-    let lists = head.next;
-    let plan = head.plan;
-    print_lists(&input[TEMPLATE_SIZE..lists], plan, input, lists, out);
 }
 
 fn main() {
     let mut buffer = input_buffer();
-    let n = io::read_full(STDIN_FILENO, &mut buffer);
-    let mut out = io::large_buffer();
-    print_all(&buffer[..n], &mut out);
+    let taken = read_input(&mut buffer);
+    if taken.failed {
+        io::write_all(STDERR_FILENO, b"intake: standard input can't be read\n");
+        return;
+    }
+    let n = taken.n;
+    print_output(&buffer[..n]);
 }

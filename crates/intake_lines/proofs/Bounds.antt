@@ -1,30 +1,18 @@
 -- How far a call goes, for a caller that goes on from there. Assumes nothing.
-use mathlib.Core.Path.{_≡_, ap, _∙_}
+use mathlib.Core.Path.{_≡_}
 use mathlib.Core.Bool.{Bool, true, false}
 use mathlib.Core.List.{List}
 use Prim.Native.Nat.{ℕ, _+_, _-_, _≤_}
 use native.Mathlib.Omega.{arith}
-use lib.ListN.{length, take, drop, length-append, length-drop}
+use lib.ListN.{length, take, drop}
 use Rattle.facts.proofs.Cases.{clash}
-use Rattle.lines.specs.Contract.{Wrote}
+use Rattle.lines.proofs.Lines.{wrote-inside}
 use Rattle.plans.specs.Plans.{PlanOf}
 use Rattle.plans.specs.declared.Plan.{Plan}
 use Rattle.intake_lines.specs.Output.{Turn}
 use Rattle.intake_lines.specs.Contract.{Headed, refused, found, Turned, stopped, went}
 
--- what was written is within the buffer, since that is as long as before
-wrote-within : (l before after : List ℕ) (wrote : ℕ) → length after ≡ length before → Wrote l before after wrote → wrote ≤ length before
-wrote-within l before after wrote same w =
-    let e = ap length (w .bytes) ∙ length-append l (drop (length l) before) in
-    let d = length-drop (length l) before in
-    let n = w .count in
-    omega arith
-
 module _ (s before after : List ℕ) (wrote next : ℕ) (more : Bool) (p : Plan) where
-  pub headed-within : Headed s before after wrote next more p → length after ≡ length before → wrote ≤ length before
-  headed-within (refused r q w n m e) same = wrote-within _ before after wrote same w
-  headed-within (found q f i w m pl) same = wrote-within _ before after wrote same w
-
   pub headed-from : Headed s before after wrote next more p → more ≡ true → 3 ≤ next
   headed-from (refused r q w n m e) go = absurd (clash go m)
   headed-from (found q f i w m pl) go = f
@@ -39,8 +27,8 @@ module _ (s before after : List ℕ) (wrote next : ℕ) (more : Bool) (p : Plan)
 
 module _ (u : Turn) (input : List ℕ) (at : ℕ) (before after : List ℕ) (wrote next : ℕ) (more : Bool) where
   pub turned-within : Turned u input at before after wrote next more → length after ≡ length before → wrote ≤ length before
-  turned-within (stopped l q w n m) same = wrote-within l before after wrote same w
-  turned-within (went l q w f i m) same = wrote-within l before after wrote same w
+  turned-within (stopped l q w n m) same = let i = wrote-inside l before after wrote w in omega arith
+  turned-within (went l q w f i m) same = let k = wrote-inside l before after wrote w in omega arith
 
   pub turned-from : Turned u input at before after wrote next more → more ≡ true → at + 2 ≤ next
   turned-from (stopped l q w n m) go = absurd (clash go m)

@@ -1,2 +1,0 @@
--- Claims == the claims of specs/Claims.antt, proved
-pub mod Claims
