@@ -1,4 +1,4 @@
-// The program of document 01: it reads a template and lists from standard input, and prints a line for each list.
+// The program of docs/RULES.md, "The program": it reads a template and lists from standard input, and prints a line for each list.
 // Where it can't read, or can't print, it says so on standard error.
 ghost use mathlib.Core.Path.{_≡_};
 ghost use mathlib.Core.Bool.{true};

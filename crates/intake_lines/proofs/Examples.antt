@@ -1,4 +1,4 @@
--- The examples of the program (document 01, "The program", and its corners), computed on the definition of the output. Assumes nothing.
+-- The examples of the program (docs/RULES.md, "The program", and its corners), computed on the definition of the output. Assumes nothing.
 use mathlib.Core.Path.{_≡_, refl}
 use mathlib.Core.List.{List, [], _∷_}
 use mathlib.Core.Bool.{Bool, true, false, _&&_}
@@ -37,7 +37,7 @@ right (row s l ∷ rows) = sameBytes (output s) l && right rows
 
 examples : List Row
 examples =
-    row (80 ∷ 8 ∷ 0 ∷ 16 ∷ 2 ∷ 1 ∷ 1 ∷ 0 ∷ 0 ∷ 0 ∷ 3 ∷ 64 ∷ 2 ∷ 1 ∷ 1 ∷ 0 ∷ 0 ∷ 0 ∷ 1 ∷ 7 ∷ 0 ∷ 0 ∷ 0 ∷ 64 ∷ 1 ∷ 1 ∷ 1 ∷ 0 ∷ 0 ∷ 0 ∷ []) (49 ∷ 32 ∷ 48 ∷ 32 ∷ 50 ∷ 32 ∷ 48 ∷ 32 ∷ 49 ∷ 10 ∷ 50 ∷ 32 ∷ 49 ∷ 32 ∷ 49 ∷ 10 ∷ []) ∷  -- the example of document 01
+    row (80 ∷ 8 ∷ 0 ∷ 16 ∷ 2 ∷ 1 ∷ 1 ∷ 0 ∷ 0 ∷ 0 ∷ 3 ∷ 64 ∷ 2 ∷ 1 ∷ 1 ∷ 0 ∷ 0 ∷ 0 ∷ 1 ∷ 7 ∷ 0 ∷ 0 ∷ 0 ∷ 64 ∷ 1 ∷ 1 ∷ 1 ∷ 0 ∷ 0 ∷ 0 ∷ []) (49 ∷ 32 ∷ 48 ∷ 32 ∷ 50 ∷ 32 ∷ 48 ∷ 32 ∷ 49 ∷ 10 ∷ 50 ∷ 32 ∷ 49 ∷ 32 ∷ 49 ∷ 10 ∷ []) ∷  -- the first two lists of the example in docs/RULES.md, "The program"
     row ([]) (48 ∷ 32 ∷ 51 ∷ 32 ∷ 48 ∷ 10 ∷ []) ∷  -- no bytes
     row (81 ∷ []) (48 ∷ 32 ∷ 52 ∷ 32 ∷ 48 ∷ 10 ∷ []) ∷  -- another first kind
     row (80 ∷ 5 ∷ 0 ∷ 255 ∷ []) (48 ∷ 32 ∷ 51 ∷ 32 ∷ 48 ∷ 10 ∷ []) ∷  -- missing bytes win over a fault in the bytes that are there

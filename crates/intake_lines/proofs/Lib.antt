@@ -2,7 +2,7 @@
 -- Headers  == the refusal of the whole input
 -- Turns    == one list, one line
 -- Bounds   == how far a call goes, for a caller that goes on from there
--- Examples == document 01's example and its corners, computed
+-- Examples == the example of docs/RULES.md, "The program", and its corners, computed
 -- Unique   == each promise allows one result only
 mod Headers
 mod Turns

@@ -1,4 +1,4 @@
--- The definitions of `intake_lines`: what the program prints (document 01, "The program").
+-- The definitions of `intake_lines`: what the program prints (docs/RULES.md, "The program").
 -- Output   == the whole output as a function of the input's bytes
 -- Contract == what the functions say
 -- Assumes nothing: these are definitions.

@@ -1,5 +1,5 @@
--- The whole output (document 01, "The program": "It prints a line per list and no header: the list's number from 1, the answer, the
--- count of elements, then on a match each witness byte").
+-- The whole output (docs/RULES.md, "The program": "the list's number from 1, the answer, the count of elements, the
+-- bytes of the witness in decimal").
 -- Turn             == what one turn prints: the last bytes, or some bytes, with the input that is left
 -- emptyRoom        == the room that a list's witness is written into: 32 zero bytes
 -- answered k n g   == the line of the list number k with n elements, for which the matcher gives g: the witness only on a match
