@@ -5,7 +5,7 @@
 -- Examples == a line, computed
 -- Unique   == the promise allows one result only
 mod Places
-mod Digits
+pub mod Digits
 pub mod Lines
 mod Examples
 pub mod Unique

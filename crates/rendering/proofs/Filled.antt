@@ -16,7 +16,7 @@ use Rattle.intake_lines.specs.Output.{turn, linesFrom, started, output}
 use Rattle.intake_lines.specs.Contract.{Headed, refused, found, Turned, stopped, went}
 use Rattle.plans.specs.declared.Plan.{Plan}
 use Rattle.rendering.proofs.Steps.{lines-last, lines-more}
-use Rattle.rendering.proofs.Sizes.{Reached, reached-inv, turn-size}
+use Rattle.rendering.proofs.Sizes.{reached-inv, turn-size}
 
 -- ---- a part that is lent, and comes back with bytes in front
 

@@ -7,7 +7,7 @@ use Prim.Native.Nat.{ℕ, zero, suc, _+_, _*_, _≤_, _<_}
 use native.Mathlib.Omega.{arith}
 use borrow.Author.Tests.{eqb-true, ltb-false}
 use lib.Dec.{eqb, ltb}
-use lib.ListN.{length, take, drop, length-append, length-replicate}
+use lib.ListN.{length, take, drop, length-append, length-take, length-drop}
 use lib.Seq.{take-at}
 use lib.IntN.{ℤ}
 use Rattle.facts.proofs.Cases.{by-test, and-left, and-right, one-of}
@@ -29,37 +29,46 @@ use Rattle.matching.proofs.FirstWitness.{first-witness, obeys-size}
 use Rattle.matching.proofs.RulesByBlocks.{hits-low}
 use Rattle.lines.specs.Line.{decimal, spaceThen, spaced, line}
 use Rattle.lines.proofs.Lines.{byte-next, digit-next, count-next, line-length}
-use Rattle.stream.specs.Input.{recordFault, afterTemplate, templateIn, reached}
+use Rattle.stream.specs.Input.{recordFault, templateSize, afterTemplate, templateIn, reached}
 use Rattle.stream.proofs.Rests.{list-read}
 use Rattle.intake_lines.specs.Output.{emptyRoom, answered, listLine, go, turn}
 use Rattle.rendering.proofs.Steps.{turn-went}
 
 -- ---- where the template is reached
 
-pub record Reached (s t : List ℕ) : Type 0 where
+pub record Reached (s t r : List ℕ) : Type 0 where
   pub short : length s ≤ 65536
+  pub parts : length r + 3 + length t ≤ length s
   pub accepted : verdict (readTemplate leafHead t) ≡ 0
 
-pub reached-inv : (s t r : List ℕ) → reached s ≡ got t r → Reached s t
+pub reached-inv : (s t r : List ℕ) → reached s ≡ got t r → Reached s t r
 unfolding reached
 reached-inv s t r e = size (ltb 65536 (length s)) refl e
   where
-    own : (n : ℕ) → verdict (readTemplate leafHead (templateIn s)) ≡ n → refuseOr n (got (templateIn s) (drop (afterTemplate s) s)) ≡ got t r → verdict (readTemplate leafHead t) ≡ 0
-    own (suc n) f q = absurd (clash q)
-    own zero f q = let same : templateIn s ≡ t = cc in ap (λ (b : List ℕ). verdict (readTemplate leafHead b)) (sym same) ∙ f
+    own : length s ≤ 65536 → afterTemplate s ≤ length s → (n : ℕ) → verdict (readTemplate leafHead (templateIn s)) ≡ n → refuseOr n (got (templateIn s) (drop (afterTemplate s) s)) ≡ got t r → Reached s t r
+    own short fits (suc n) f q = absurd (clash q)
+    own short fits zero f q =
+        let template-same : templateIn s ≡ t = cc in
+        let rest-same : drop (afterTemplate s) s ≡ r = cc in
+        let t-size = sym (ap length template-same) ∙ length-take (templateSize s) (drop 3 s) in
+        let r-size = sym (ap length rest-same) ∙ length-drop (afterTemplate s) s in
+        record {
+          short = short;
+          parts = omega arith;
+          accepted = ap (λ (b : List ℕ). verdict (readTemplate leafHead b)) (sym template-same) ∙ f;
+        }
 
-    rest : (b : Bool) → orRefuse b 3 (refuseOr (verdict (readTemplate leafHead (templateIn s))) (got (templateIn s) (drop (afterTemplate s) s))) ≡ got t r → verdict (readTemplate leafHead t) ≡ 0
-    rest true q = absurd (clash q)
-    rest false q = own (verdict (readTemplate leafHead (templateIn s))) refl q
+    rest : length s ≤ 65536 → (b : Bool) → ltb (length s) (afterTemplate s) ≡ b → orRefuse b 3 (refuseOr (verdict (readTemplate leafHead (templateIn s))) (got (templateIn s) (drop (afterTemplate s) s))) ≡ got t r → Reached s t r
+    rest short true f q = absurd (clash q)
+    rest short false f q = own short (ltb-false (length s) (afterTemplate s) f) (verdict (readTemplate leafHead (templateIn s))) refl q
 
-    front : (n : ℕ) → refuseOr n (orRefuse (ltb (length s) (afterTemplate s)) 3 (refuseOr (verdict (readTemplate leafHead (templateIn s))) (got (templateIn s) (drop (afterTemplate s) s)))) ≡ got t r
-        → verdict (readTemplate leafHead t) ≡ 0
-    front (suc n) q = absurd (clash q)
-    front zero q = rest (ltb (length s) (afterTemplate s)) q
+    front : length s ≤ 65536 → (n : ℕ) → refuseOr n (orRefuse (ltb (length s) (afterTemplate s)) 3 (refuseOr (verdict (readTemplate leafHead (templateIn s))) (got (templateIn s) (drop (afterTemplate s) s)))) ≡ got t r → Reached s t r
+    front short (suc n) q = absurd (clash q)
+    front short zero q = rest short (ltb (length s) (afterTemplate s)) refl q
 
-    size : (b : Bool) → ltb 65536 (length s) ≡ b → orRefuse b 2 (refuseOr (recordFault 0x50 3 s) (orRefuse (ltb (length s) (afterTemplate s)) 3 (refuseOr (verdict (readTemplate leafHead (templateIn s))) (got (templateIn s) (drop (afterTemplate s) s))))) ≡ got t r → Reached s t
+    size : (b : Bool) → ltb 65536 (length s) ≡ b → orRefuse b 2 (refuseOr (recordFault 0x50 3 s) (orRefuse (ltb (length s) (afterTemplate s)) 3 (refuseOr (verdict (readTemplate leafHead (templateIn s))) (got (templateIn s) (drop (afterTemplate s) s))))) ≡ got t r → Reached s t r
     size true f q = absurd (clash q)
-    size false f q = record { short = ltb-false 65536 (length s) f; accepted = front (recordFault 0x50 3 s) q }
+    size false f q = front (ltb-false 65536 (length s) f) (recordFault 0x50 3 s) q
 
 -- ---- the bytes of a witness
 

@@ -1,0 +1,1 @@
+// What is claimed of the program's output as a whole: specs/Claims.antt.
