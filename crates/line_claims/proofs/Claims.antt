@@ -1,7 +1,7 @@
 -- The claim of specs/Claims.antt. A list of n elements has 2 + 5n bytes, and its line at most as many digits as its number has, and 5 + 5n bytes. With numbers of five digits that is
 -- at most five bytes for each byte of the input; each shorter number saves a byte for each digit that it lacks. Assumes nothing.
-use mathlib.Core.Path.{_≡_, refl, sym, ap, _∙_}
-use mathlib.Core.List.{List, [], _∷_, _++_}
+use mathlib.Core.Path.{_≡_, refl, ap}
+use mathlib.Core.List.{List}
 use mathlib.Core.Logic.{_⊎_, inl, inr, ⊎-elim}
 use Prim.Native.Nat.{ℕ, zero, suc, _+_, _*_, _-_, _≤_, _<_}
 use native.Mathlib.Omega.{arith}

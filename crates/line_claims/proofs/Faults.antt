@@ -18,7 +18,7 @@ use Rattle.grammar.specs.Template.{Template, anyLength}
 use Rattle.grammar.specs.Whole.{bodyHere, templateHere, readTemplate}
 use Rattle.grammar.proofs.ReadApart.{clash}
 use Rattle.grammar.proofs.RefusalNumbers.{Cases, isRefused, isRead, read-cases, template-row}
-use Rattle.lines.specs.Line.{decimal, spaceThen, spaced, line}
+use Rattle.lines.specs.Line.{decimal, spaced, line}
 use Rattle.lines.proofs.Lines.{byte-next, digit-next, line-length}
 use Rattle.stream.specs.Input.{recordFault, putInteger, integers, listFault, listHere, afterTemplate, templateIn, reached}
 use Rattle.stream.proofs.Lists.{record-long}

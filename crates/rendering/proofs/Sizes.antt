@@ -1,5 +1,5 @@
 -- How long a list's line is, by the bytes of the list: with a number of at most five digits no more than five times as long. Assumes nothing.
-use mathlib.Core.Path.{_≡_, refl, sym, ap, ap₂, _∙_}
+use mathlib.Core.Path.{_≡_, refl, sym, ap, _∙_}
 use mathlib.Core.Bool.{Bool, true, false, _&&_, _||_}
 use mathlib.Core.List.{List, [], _∷_, _++_}
 use mathlib.Core.Logic.{⊎-elim}
@@ -15,13 +15,13 @@ use Rattle.grammar.specs.Element.{Elem}
 use Rattle.grammar.specs.Leaf.{Leaf, leafHead}
 use Rattle.grammar.specs.Matches.{matches}
 use Rattle.grammar.specs.Members.{memberHits}
-use Rattle.grammar.specs.Read.{Read, refuse, got, orRefuse, refuseOr, verdict}
+use Rattle.grammar.specs.Read.{Read, got, orRefuse, refuseOr, verdict}
 use Rattle.grammar.specs.Template.{Template, template, membersOf}
 use Rattle.grammar.specs.Whole.{readTemplate}
 use Rattle.grammar.proofs.MemberLimit.{accepted-few}
 use Rattle.grammar.proofs.ReadApart.{clash}
 use Rattle.grammar.proofs.RefusalNumbers.{Cases, isRefused, isRead, read-cases}
-use Rattle.matching.specs.Answer.{Given, given, written, matchRead, matchAnswer}
+use Rattle.matching.specs.Answer.{given, written, matchRead, matchAnswer}
 use Rattle.matching.specs.Obeys.{spare, rightBytes, noneTwice, bodyMet, lengthMet, obeysBy, obeys}
 use Rattle.matching.specs.Search.{Maybe, nothing, just, firstWitness}
 use Rattle.matching.proofs.Answers.{few-members, reads}
@@ -43,11 +43,17 @@ pub record Reached (s t r : List ℕ) : Type 0 where
 
 pub reached-inv : (s t r : List ℕ) → reached s ≡ got t r → Reached s t r
 unfolding reached
-reached-inv s t r e = size (ltb 65536 (length s)) refl e
+reached-inv s t r e = by-length (ltb 65536 (length s)) refl e
   where
-    own : length s ≤ 65536 → afterTemplate s ≤ length s → (n : ℕ) → verdict (readTemplate leafHead (templateIn s)) ≡ n → refuseOr n (got (templateIn s) (drop (afterTemplate s) s)) ≡ got t r → Reached s t r
-    own short fits (suc n) f q = absurd (clash q)
-    own short fits zero f q =
+    number : ℕ
+    number = verdict (readTemplate leafHead (templateIn s))
+
+    whole : Read (List ℕ)
+    whole = got (templateIn s) (drop (afterTemplate s) s)
+
+    by-number : length s ≤ 65536 → afterTemplate s ≤ length s → (n : ℕ) → number ≡ n → refuseOr n whole ≡ got t r → Reached s t r
+    by-number short fits (suc n) f q = absurd (clash q)
+    by-number short fits zero f q =
         let template-same : templateIn s ≡ t = cc in
         let rest-same : drop (afterTemplate s) s ≡ r = cc in
         let t-size = sym (ap length template-same) ∙ length-take (templateSize s) (drop 3 s) in
@@ -58,17 +64,17 @@ reached-inv s t r e = size (ltb 65536 (length s)) refl e
           accepted = ap (λ (b : List ℕ). verdict (readTemplate leafHead b)) (sym template-same) ∙ f;
         }
 
-    rest : length s ≤ 65536 → (b : Bool) → ltb (length s) (afterTemplate s) ≡ b → orRefuse b 3 (refuseOr (verdict (readTemplate leafHead (templateIn s))) (got (templateIn s) (drop (afterTemplate s) s))) ≡ got t r → Reached s t r
-    rest short true f q = absurd (clash q)
-    rest short false f q = own short (ltb-false (length s) (afterTemplate s) f) (verdict (readTemplate leafHead (templateIn s))) refl q
+    by-end : length s ≤ 65536 → (b : Bool) → ltb (length s) (afterTemplate s) ≡ b → orRefuse b 3 (refuseOr number whole) ≡ got t r → Reached s t r
+    by-end short true f q = absurd (clash q)
+    by-end short false f q = by-number short (ltb-false (length s) (afterTemplate s) f) number refl q
 
-    front : length s ≤ 65536 → (n : ℕ) → refuseOr n (orRefuse (ltb (length s) (afterTemplate s)) 3 (refuseOr (verdict (readTemplate leafHead (templateIn s))) (got (templateIn s) (drop (afterTemplate s) s)))) ≡ got t r → Reached s t r
-    front short (suc n) q = absurd (clash q)
-    front short zero q = rest short (ltb (length s) (afterTemplate s)) refl q
+    by-record : length s ≤ 65536 → (n : ℕ) → refuseOr n (orRefuse (ltb (length s) (afterTemplate s)) 3 (refuseOr number whole)) ≡ got t r → Reached s t r
+    by-record short (suc n) q = absurd (clash q)
+    by-record short zero q = by-end short (ltb (length s) (afterTemplate s)) refl q
 
-    size : (b : Bool) → ltb 65536 (length s) ≡ b → orRefuse b 2 (refuseOr (recordFault 0x50 3 s) (orRefuse (ltb (length s) (afterTemplate s)) 3 (refuseOr (verdict (readTemplate leafHead (templateIn s))) (got (templateIn s) (drop (afterTemplate s) s))))) ≡ got t r → Reached s t r
-    size true f q = absurd (clash q)
-    size false f q = front (ltb-false 65536 (length s) f) (recordFault 0x50 3 s) q
+    by-length : (b : Bool) → ltb 65536 (length s) ≡ b → orRefuse b 2 (refuseOr (recordFault 0x50 3 s) (orRefuse (ltb (length s) (afterTemplate s)) 3 (refuseOr number whole))) ≡ got t r → Reached s t r
+    by-length true f q = absurd (clash q)
+    by-length false f q = by-record (ltb-false 65536 (length s) f) (recordFault 0x50 3 s) q
 
 -- ---- the bytes of a witness
 

@@ -1,9 +1,8 @@
 -- `rendering::put_lists` meets its contract. The loop: what is written, and then the lines of the lists from `at` on, are the lines of all lists; there are
 -- at least two bytes before `at` for each list so far, and after what is written there is room for five bytes for each byte of the input that is left, and
 -- for a line more. The measure is the number of bytes left. Assumes nothing.
-use mathlib.Core.Path.{_≡_, _∙_}
-use mathlib.Core.List.{List}
-use Prim.Native.Nat.{ℕ, _+_, _-_, _≤_, _<_}
+use mathlib.Core.Path.{_∙_}
+use Prim.Native.Nat.{_+_, _-_, _≤_, _<_}
 use native.Mathlib.Omega.{arith}
 use borrow.Author.Needs.{needs}
 use borrow.Author.Tests.{not-true, not-false}
