@@ -125,7 +125,7 @@ impl Group {
     }
 }
 
-/// Why bytes are no rule, by the number of document 01's table.
+/// Why bytes are no rule, by its number in `docs/RULES.md`.
 #[derive(Clone, Copy, Debug, PartialEq, Eq, Hash)]
 #[repr(u8)]
 pub enum Refusal {

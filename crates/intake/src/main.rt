@@ -2,7 +2,7 @@
 // Where it can't read, or can't print, it says so on standard error.
 ghost use mathlib.Core.Path.{_≡_};
 ghost use mathlib.Core.Bool.{true};
-ghost use Prim.Native.Nat.{_≤_};
+ghost use Prim.Native.Nat.{_+_, _*_, _≤_};
 ghost use lib.ListN.{length};
 ghost use Rattle.io.specs.Counts.{Counts};
 use libc::STDERR_FILENO;
@@ -16,6 +16,9 @@ fn input_buffer() -> [u8; 65537]
 {
     [0; 65537]
 }
+
+// The longest input whose output fits into `large_buffer`. Most are shorter, and to clear a longer buffer takes longer than to answer them.
+const SHORT: usize = 13056;
 
 // What `render` asks for, for the longest input that is read: five bytes for each of its bytes, and 256.
 fn output_buffer() -> [u8; 327941]
@@ -59,12 +62,11 @@ fn read_input(buf: &mut [u8]) -> Taken
     Taken { n, failed: false }
 }
 
-// Prints the output of the input.
-fn print_output(input: &[u8])
-    requires { ⌜ length (now input) ≤ 65537 ⌝ }
+// Prints the output of the input, by way of a lent buffer.
+fn print_output(input: &[u8], out: &mut [u8])
+    requires { ⌜ 5 * length (now input) + 256 ≤ length (now out) ⌝ }
 {
-    let mut out = output_buffer();
-    let end = render(input, &mut out);
+    let end = render(input, out);
     if !io::write_all(STDOUT_FILENO, &out[..end]) {
         io::write_all(STDERR_FILENO, b"intake: standard output can't be written\n");
     }
@@ -78,5 +80,11 @@ fn main() {
         return;
     }
     let n = taken.n;
-    print_output(&buffer[..n]);
+    if n <= SHORT {
+        let mut out = io::large_buffer();
+        print_output(&buffer[..n], &mut out);
+        return;
+    }
+    let mut out = output_buffer();
+    print_output(&buffer[..n], &mut out);
 }

@@ -1,4 +1,4 @@
--- `intake::print_output` is safe and ends: the buffer is long enough for the longest input, and the output within it. Assumes nothing.
+-- `intake::print_output` is safe and ends: the output is within the buffer. Assumes nothing.
 use mathlib.Core.Path.{sym}
 use lib.Seq.{length-take-le}
 use Rattle.lines.proofs.Lines.{wrote-inside}
@@ -6,21 +6,15 @@ use borrow.Author.Needs.{needs}
 use Rattle.intake.proofs.print_output.Statement.{statement}
 use Rattle.intake.proofs.print_output.Tie as tie
 
-output-buffer-requires : tie.Need-output-buffer-requires
-output-buffer-requires c κs = search needs
-
-slice-aggregate-render : tie.Need-slice-aggregate-render
-slice-aggregate-render c = search needs
-
 render-requires : tie.Need-render-requires
 render-requires c κs = search needs
 
-array-share-prefix-out : tie.Need-array-share-prefix-out
-array-share-prefix-out c = wrote-inside _ _ _ _ (c .before .render .ensures)
+slice-reshare-prefix-write-all : tie.Need-slice-reshare-prefix-write-all
+slice-reshare-prefix-write-all c = wrote-inside _ _ _ _ (c .before .before .render .ensures)
 
 slice-aggregate-write-all : tie.Need-slice-aggregate-write-all
 slice-aggregate-write-all c =
-    let rendered = c .before .before .render in
+    let rendered = c .before .before .before .render in
     sym (length-take-le (rendered .result) (rendered .last .1 .0) (wrote-inside _ _ _ _ (rendered .ensures)))
 
 write-all-requires : tie.Need-write-all-requires
@@ -32,8 +26,14 @@ slice-aggregate-write-all-2 c = search needs
 write-all-requires-2 : tie.Need-write-all-requires-2
 write-all-requires-2 c κs = search needs
 
+same-length : tie.Need-same-length
+same-length c = search needs
+
 returns : tie.Need-returns
 returns c = search needs
+
+same-length-2 : tie.Need-same-length-2
+same-length-2 c = search needs
 
 returns-2 : tie.Need-returns-2
 returns-2 c = search needs
@@ -42,13 +42,13 @@ pub print-output-spec : {M : Type 1} → statement M
 print-output-spec =
     tie.close
     (tie.spec
-    output-buffer-requires
-    slice-aggregate-render
     render-requires
-    array-share-prefix-out
+    slice-reshare-prefix-write-all
     slice-aggregate-write-all
     write-all-requires
     slice-aggregate-write-all-2
     write-all-requires-2
+    same-length
     returns
+    same-length-2
     returns-2)
