@@ -38,7 +38,7 @@ use Rattle.forms.proofs.Sets.{elem-set}
 use Rattle.demands.specs.Judged.{sameBytes, gives, forms, comesOut, allComeOut, judged}
 use Rattle.demands.specs.NormalForms.{Accepted, SameIntegers}
 use Rattle.demands.specs.Calls.{MatchCall, JudgeCall, NormalCall}
-use Rattle.demands.specs.Claims.{Accepts, Refused, RefusedAlone, Kept, ListRows, MatchGiven, JudgeGiven, NormalGiven, MatchedExactly, JudgedExactly, FormCall, FormOf, MaximalRanges, First, Second, Third, Answered, JudgeAgrees, SomeIsMatched, AsJudged}
+use Rattle.demands.specs.Claims.{Accepts, Refused, RefusedAlone, Kept, ListRows, MatchGiven, JudgeGiven, NormalGiven, MatchedExactly, JudgedExactly, FormCall, FormOf, MaximalRanges, First, Second, Third, EveryInput, JudgeAgrees, SomeIsMatched, AsJudged}
 use Rattle.demands.proofs.Calls.{match-answer, judge-answer, normal-answer, match-called, judge-called, normal-called}
 use Rattle.demands.proofs.NormalForms.{side-of, accepted-side, widest-of, length-normalForm, form-placed, same-integers-same-form, same-form-same-integers, form-of-form}
 use Rattle.demands.proofs.Outcomes.{ListOutcome, tooLong, tooMany, unfit, rejected, decided, MatchOutcome, left, wrote, match-outcome, judge-outcome, NormalOutcome, declined, roomShort, formed, normal-outcome}
@@ -323,8 +323,8 @@ third = record {
 
 -- ---- every input has a call; matcher and judge agree
 
-pub answered : Answered
-answered = (match-called, judge-called, normal-called)
+pub everyInput : EveryInput
+everyInput = (match-called, judge-called, normal-called)
 
 pub judgeAgrees : JudgeAgrees
 judgeAgrees t xs room after r c j =

@@ -24,7 +24,7 @@
 --             the length that the table of records counts
 -- First, Second, Third <-> demands 1, 2 and 3 hold
 -- AsJudged <-> every judged example that is marked P comes out of the definitions
--- Answered      <-> every input has a call: the contract of each entry point allows an answer for it, so that no demand is empty
+-- EveryInput    <-> every input has a call: the contract of each entry point allows an answer for it, so that no demand is empty
 -- JudgeAgrees   <-> the judge passes what the matcher writes
 -- SomeIsMatched <-> a list for which some witness passes is matched
 -- Assumes nothing: these are statements, proved in proofs/Claims.antt.
@@ -174,8 +174,8 @@ Second = Demand2
 abbrev pub Third : Type 0
 Third = Demand3
 
-abbrev pub Answered : Type 0
-Answered =
+abbrev pub EveryInput : Type 0
+EveryInput =
     ((t : List ℕ) (xs : List ℤ) (room : List ℕ) → (r : ℕ) × (after : List ℕ) × MatchCall t xs room r after)
     × ((t : List ℕ) (xs : List ℤ) (w : List ℕ) → (r : ℕ) × JudgeCall t xs w r)
     × ((t room : List ℕ) → (n : ℕ) × (l : ℕ) × (after : List ℕ) × NormalCall t room n l after)
