@@ -2,7 +2,7 @@
 -- NormalForms == laws of normal forms: what a form reads as, that it is the only one for its integers, and how long it is
 -- Outcomes    == each number of the matcher, the judge and the normaliser with what it was given for
 -- Claims      == the demands, the table and the other claims, proved
-mod Calls
+pub mod Calls
 mod NormalForms
 mod Outcomes
 pub mod Claims

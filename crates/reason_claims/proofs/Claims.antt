@@ -1,9 +1,11 @@
 -- The claims of specs/Claims.antt, proved. Assumes nothing.
-use mathlib.Core.Path.{_≡_, refl, sym, ap, _∙_, subst}
+use mathlib.Core.Path.{_≡_, refl, sym, ap, _∙_, subst, subst₂}
 use mathlib.Core.Bool.{Bool}
 use mathlib.Core.Logic.{⊎-elim}
 use mathlib.Core.List.{List, []}
-use Prim.Native.Nat.{ℕ}
+use Prim.Native.Nat.{ℕ, _<_}
+use native.Mathlib.Omega.{arith}
+use lib.ListN.{length}
 use lib.IntN.{ℤ}
 use Rattle.grammar.specs.Leaf.{Leaf, leafHead}
 use Rattle.grammar.specs.Template.{Template}
@@ -20,7 +22,10 @@ use Rattle.reasons.proofs.Closures.{most-shortfall}
 use Rattle.reasons.proofs.Choices.{chosen-never}
 use Rattle.reasons.proofs.Hall as hall-theorem
 use Rattle.why.specs.Unmatched.{Unmatched, Explained}
-use Rattle.reason_claims.specs.Claims.{Exists, OnlyOne, Explains, Greatest, Hall, GivenWhere, GivenShort, NoneShorter, InsideOthers, NumberAgrees, ShortExactly}
+use Rattle.demands.proofs.Claims.{first, everyInput}
+use Rattle.demands.proofs.Calls.{match-answer}
+use Rattle.reason_claims.specs.Calls.{WhyCall}
+use Rattle.reason_claims.specs.Claims.{Exists, OnlyOne, Explains, Greatest, Hall, GivenWhere, GivenShort, NoneShorter, InsideOthers, NumberAgrees, NeverTwelve, ShortExactly}
 
 -- ---- groups
 pub exists : Exists
@@ -42,6 +47,12 @@ hall ok k n few short = (
 )
 
 -- ---- why not
+-- the contract, said of what was lent and given
+why-of : (t : List ℕ) (xs : List ℤ) (r g : ℕ) → WhyCall t xs r g → WhyOf t xs r g
+why-of t xs r g c =
+    subst₂ (λ (n m : ℕ). WhyOf t xs n m) (c .number) (c .mask)
+    (subst₂ (λ (s : List ℕ) (l : List ℤ). WhyOf s l (c .result .number) (c .result .group)) (c .bytes) (c .list) (c .allowed))
+
 -- what stands behind a group
 behind : (t : List ℕ) (xs : List ℤ) (r g : ℕ) → WhyOf t xs r g → (g ≡ 0 → ⊥) → (s : Template Leaf) × Unmatched t xs s × Explained s xs
 unfolding GroupRead GroupOf
@@ -59,25 +70,39 @@ behind t xs r g h some = read (read-cases t)
 
 pub givenWhere : GivenWhere
 unfolding GroupOf
-givenWhere t xs r g h = (
-  behind t xs r g h,
+givenWhere t xs r g c = (
+  behind t xs r g (why-of t xs r g c),
   λ s u e z.
+      let h = why-of t xs r g c in
       let a = explained-asked e in
       let one = sym (h .number (ownRoom xs) (own-enough xs)) ∙ one-where u (ownRoom xs) (own-enough xs) in
       empty-not-short z (asked-group h (u .reading) (a .3) .0 one .1),
 )
 
 pub givenShort : GivenShort
-givenShort t xs r g h some s q ok k n e = given-one h some q e .2
+givenShort t xs r g c some s q ok k n e = given-one (why-of t xs r g c) some q e .2
 
 pub noneShorter : NoneShorter
-noneShorter t xs r g h some s q ok k n e = given-one h some q e .1 .most .most
+noneShorter t xs r g c some s q ok k n e = given-one (why-of t xs r g c) some q e .1 .most .most
 
 pub insideOthers : InsideOthers
-insideOthers t xs r g h some s q ok k n e = given-one h some q e .1 .least
+insideOthers t xs r g c some s q ok k n e = given-one (why-of t xs r g c) some q e .1 .least
 
 pub numberAgrees : NumberAgrees
-numberAgrees t xs r g h room after q l a = sym (h .number room l) ∙ sym (ap numberOf a)
+numberAgrees t xs r g c room after q l m = sym (why-of t xs r g c .number room l) ∙ ap numberOf (match-answer t xs room q after m)
+
+pub neverTwelve : NeverTwelve
+neverTwelve t xs r g c =
+    let m = everyInput .0 t xs (ownRoom xs) in
+    let q = m .0 in
+    let same : r ≡ q = numberAgrees t xs r g c (ownRoom xs) (m .1) q (own-enough xs) (m .2) in
+    let given = first .matcher t xs (ownRoom xs) q (m .1) (m .2) in
+    let twelve : q ≡ 12 → ⊥ = λ e. roomy (given .twelve .0 e .1) in
+    let most = given .numbers in
+    omega (arith, twelve)
+  where
+    roomy : length (ownRoom xs) < length xs → ⊥
+    roomy h = let l = own-enough xs in omega arith
 
 pub shortExactly : ShortExactly
 shortExactly t xs s taken q ok k n e =

@@ -1,4 +1,5 @@
--- What is claimed of groups of members that are short of elements, and of `why_not`, in the words of document 02. `WhyOf` is the contract of `why_not`.
+-- What is claimed of groups of members that are short of elements, and of `why_not`, in the words of document 02. Of `why_not` they speak of
+-- every call that its contract allows.
 -- Exists    <-> of the groups whose shortfall is greatest, one lies inside all the others
 -- OnlyOne   <-> there is only one such group
 -- Explains  <-> it is short exactly where some group is
@@ -10,6 +11,7 @@
 -- NoneShorter   <-> no group's shortfall is greater
 -- InsideOthers  <-> of the groups whose shortfall is greatest it "lies inside all the others"
 -- NumberAgrees  <-> the number is the matcher's, with room enough
+-- NeverTwelve   <-> the number is at most 11: nothing is lent, so no room is too short, and no witness is offered
 -- ShortExactly  <-> a group that is short "exists exactly when no assignment does"
 -- Assumes nothing: these are statements, proved in proofs/Claims.antt.
 use mathlib.Core.Path.{_≡_}
@@ -25,11 +27,13 @@ use Rattle.grammar.specs.Read.{got}
 use Rattle.grammar.specs.Template.{Template}
 use Rattle.grammar.specs.Whole.{readTemplate}
 use Rattle.matching.specs.Obeys.{obeys}
-use Rattle.matching.specs.Answer.{given, matchAnswer, Taken}
+use Rattle.matching.specs.Answer.{Taken}
 use Rattle.assign.specs.Widest.{Widest}
 use Rattle.reasons.specs.Reason.{matched, sizeOf, Group, NoLess, Most, ShortGroup, Reason, Chosen}
-use Rattle.why.specs.Why.{ofGroups, askedOf, WhyOf}
+use Rattle.why.specs.Why.{ofGroups, askedOf}
 use Rattle.why.specs.Unmatched.{Unmatched, Explained}
+use Rattle.demands.specs.Calls.{MatchCall}
+use Rattle.reason_claims.specs.Calls.{WhyCall}
 
 -- ---- groups
 abbrev pub Exists : Type 0
@@ -50,11 +54,11 @@ Hall = (ok : ℕ → ℕ → Bool) (k n : ℕ) → k ≤ 32 → n ≤ 32
 
 -- ---- why not
 abbrev pub GivenWhere : Type 0
-GivenWhere = (t : List ℕ) (xs : List ℤ) (r g : ℕ) → WhyOf t xs r g
+GivenWhere = (t : List ℕ) (xs : List ℤ) (r g : ℕ) → WhyCall t xs r g
     → ((g ≡ 0 → ⊥) → (s : Template Leaf) × Unmatched t xs s × Explained s xs) × ((s : Template Leaf) → Unmatched t xs s → Explained s xs → g ≡ 0 → ⊥)
 
 abbrev pub OfGiven : ((ℕ → ℕ → Bool) → ℕ → ℕ → ℕ → Type 0) → Type 0
-OfGiven P = (t : List ℕ) (xs : List ℤ) (r g : ℕ) → WhyOf t xs r g → (g ≡ 0 → ⊥) → (s : Template Leaf) → readTemplate leafHead t ≡ got s []
+OfGiven P = (t : List ℕ) (xs : List ℤ) (r g : ℕ) → WhyCall t xs r g → (g ≡ 0 → ⊥) → (s : Template Leaf) → readTemplate leafHead t ≡ got s []
     → (ok : ℕ → ℕ → Bool) (k n : ℕ) → askedOf s xs ≡ ofGroups ok k n → P ok k n g
 
 abbrev pub GivenShort : Type 0
@@ -67,8 +71,11 @@ abbrev pub InsideOthers : Type 0
 InsideOthers = OfGiven (λ ok k n g. (H : ℕ → Bool) → Most ok k n H → (v : ℕ) → bit g v ≡ true → H v ≡ true)
 
 abbrev pub NumberAgrees : Type 0
-NumberAgrees = (t : List ℕ) (xs : List ℤ) (r g : ℕ) → WhyOf t xs r g
-    → (room after : List ℕ) (q : ℕ) → length xs ≤ length room → given q after ≡ matchAnswer t xs room → r ≡ q
+NumberAgrees = (t : List ℕ) (xs : List ℤ) (r g : ℕ) → WhyCall t xs r g
+    → (room after : List ℕ) (q : ℕ) → length xs ≤ length room → MatchCall t xs room q after → r ≡ q
+
+abbrev pub NeverTwelve : Type 0
+NeverTwelve = (t : List ℕ) (xs : List ℤ) (r g : ℕ) → WhyCall t xs r g → r ≤ 11
 
 abbrev pub ShortExactly : Type 0
 ShortExactly = (t : List ℕ) (xs : List ℤ) (s : Template Leaf) → Taken t xs → readTemplate leafHead t ≡ got s []
