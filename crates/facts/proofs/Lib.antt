@@ -4,8 +4,10 @@
 -- Counting    == how many places of a list hold a number, and how many hold a member of a set
 -- CountedSets == sets of numbers counted, one against another
 -- Slices      == a piece of a list
+-- Puts        == an output that is written from the front on
 pub mod Cases
 pub mod Spans
 pub mod Counting
 pub mod CountedSets
 pub mod Slices
+pub mod Puts

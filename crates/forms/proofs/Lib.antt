@@ -3,7 +3,6 @@
 -- Sets     == the ranges of an element template: what they hold, and how many they can be
 -- Lengths  == how many bytes a form has
 -- Readings == what the bytes of a form read as: an element template that matches what the ranges hold
--- Puts     == an output that is written from the front on
 -- Records  == records written one after the other, and a form by the number of its ranges
 -- Unique   == each public function's promise allows one result only
 -- Examples == normal forms and answers, computed
@@ -11,7 +10,6 @@ pub mod Accepts
 pub mod Sets
 pub mod Lengths
 pub mod Readings
-mod Puts
 mod Records
 pub mod Unique
 mod Examples

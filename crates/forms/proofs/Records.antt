@@ -14,7 +14,7 @@ use Rattle.ranges.proofs.Views.{view-end, view-at}
 use Rattle.integers.specs.Integer.{intBytes, eqZ}
 use Rattle.forms.specs.Form.{recordOf, records, matchedForm, unmatchedForm, recordLength, recordsLength, matchedLength, unmatchedLength}
 use Rattle.forms.proofs.Lengths.{length-recordOf}
-use Rattle.forms.proofs.Puts.{Put, put-at, put-length, put-take, put-drop, lent-length, put-more}
+use Rattle.facts.proofs.Puts.{Put, put-at, put-length, put-take, put-drop, lent-length, put-more}
 
 pub record-single : (a b : ℤ) (o : List ℕ) → eqZ a b ≡ true → 0x01 ∷ (intBytes a ++ drop 5 o) ≡ recordOf (span a b) ++ drop (recordLength (span a b)) o
 unfolding recordOf

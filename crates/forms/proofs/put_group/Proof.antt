@@ -8,7 +8,7 @@ use borrow.Rule.Slice.PartMut.{putMid}
 use Rattle.ranges.specs.Shown.{spans}
 use Rattle.forms.specs.Form.{records, recordsLength}
 use Rattle.forms.proofs.Lengths.{length-records}
-use Rattle.forms.proofs.Puts.{Put, put-none, put-length, put-byte, lent-length, put-more}
+use Rattle.facts.proofs.Puts.{Put, put-none, put-length, put-byte, lent-length, put-more}
 use Rattle.forms.proofs.put_group.Statement.{statement}
 use Rattle.forms.proofs.put_group.Tie as tie
 

@@ -4,7 +4,7 @@ use Prim.Native.Nat.{ℕ}
 use native.Mathlib.Omega.{arith}
 use lib.ListN.{set}
 use borrow.Author.Needs.{needs}
-use Rattle.forms.proofs.Puts.{Put, put-none, put-length, put-byte}
+use Rattle.facts.proofs.Puts.{Put, put-none, put-length, put-byte}
 use Rattle.forms.proofs.put_nothing.Statement.{statement}
 use Rattle.forms.proofs.put_nothing.Tie as tie
 

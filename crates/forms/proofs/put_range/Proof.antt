@@ -9,7 +9,7 @@ use borrow.Rule.Slice.PartMut.{putMid}
 use Rattle.integers.proofs.SignedLocals.{again-same}
 use Rattle.integers.specs.Integer.{intBytes}
 use Rattle.integers.proofs.FourBytes.{length-intBytes}
-use Rattle.forms.proofs.Puts.{Put, put-none, put-length, put-byte, lent-length, put-more}
+use Rattle.facts.proofs.Puts.{Put, put-none, put-length, put-byte, lent-length, put-more}
 use Rattle.forms.proofs.put_range.Statement.{statement}
 use Rattle.forms.proofs.put_range.Tie as tie
 

@@ -9,7 +9,7 @@ use Rattle.ranges.specs.Shown.{spans}
 use Rattle.ranges.proofs.Views.{length-view}
 use Rattle.ranges.specs.declared.Ranges.{Ranges}
 use Rattle.forms.specs.Form.{records, unmatchedForm, recordsLength, unmatchedLength}
-use Rattle.forms.proofs.Puts.{Put, put-none, put-byte}
+use Rattle.facts.proofs.Puts.{Put, put-none, put-byte}
 use Rattle.forms.proofs.Records.{view-none, unmatched-none, unmatched-some, form-put, not-none}
 use Rattle.forms.proofs.put_unmatched.Statement.{statement}
 use Rattle.forms.proofs.put_unmatched.Tie as tie
