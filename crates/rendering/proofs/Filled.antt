@@ -1,16 +1,16 @@
 -- The output that is written from the front on, turn by turn. Assumes nothing.
-use mathlib.Core.Path.{_≡_, refl, sym, ap, ap₂, subst, _∙_}
+use mathlib.Core.Path.{_≡_, refl, sym, ap, subst, _∙_}
 use mathlib.Core.Bool.{Bool, true, false}
-use mathlib.Core.List.{List, [], _++_, append-assoc, append-nil}
+use mathlib.Core.List.{List, [], _++_, append-assoc}
 use Prim.Native.Nat.{ℕ, _+_, _*_, _-_, _≤_, _<_}
 use native.Mathlib.Omega.{arith}
-use lib.ListN.{length, take, drop, length-append, length-drop, drop-of-length-le}
-use lib.Seq.{drop-drop, drop-at, take-at, take-all}
+use lib.ListN.{length, take, drop, length-drop}
 use borrow.Rule.Slice.PartMut.{putMid, same-len-mid}
 use Rattle.facts.proofs.Cases.{clash}
+use Rattle.facts.proofs.Puts.{Put, lent-length, put-more}
 use Rattle.grammar.specs.Read.{got}
 use Rattle.lines.specs.Contract.{Wrote}
-use Rattle.lines.proofs.Lines.{number-few}
+use Rattle.lines.proofs.Lines.{number-few, wrote-inside}
 use Rattle.stream.specs.Input.{reached}
 use Rattle.intake_lines.specs.Output.{turn, linesFrom, started, output}
 use Rattle.intake_lines.specs.Contract.{Headed, refused, found, Turned, stopped, went}
@@ -20,36 +20,19 @@ use Rattle.rendering.proofs.Sizes.{reached-inv, turn-size}
 
 -- ---- a part that is lent, and comes back with bytes in front
 
-module _ (done o₀ o : List ℕ) (f : ℕ) (w : Wrote done o₀ o f) where
-  front : take f o ≡ done
-  front = ap (λ (b : List ℕ). take f b) (w .bytes) ∙ take-at done (drop (length done) o₀) f (sym (w .count))
+module _ (done o₀ o : List ℕ) (f : ℕ) (w : Wrote done o₀ o f) (room : f ≤ length o₀) where
+  put : Put o₀ o done f
+  put = record { is = w .bytes ∙ ap (λ (i : ℕ). done ++ drop i o₀) (sym (w .count)); size = sym (w .count); room = room }
 
-  behind : drop f o ≡ drop (length done) o₀
-  behind = ap (λ (b : List ℕ). drop f b) (w .bytes) ∙ drop-at done (drop (length done) o₀) f (sym (w .count))
+  part-length : length (take (length o - f) (drop f o)) ≡ length o₀ - f
+  part-length = lent-length o₀ o done f put
 
-  lent : take (length o - f) (drop f o) ≡ drop f o
-  lent = take-all (length o - f) (drop f o) (rw (length-drop f o) (omega arith))
-
-  pub lent-length : length (take (length o - f) (drop f o)) ≡ length o - f
-  lent-length = ap length lent ∙ length-drop f o
-
-  back : (ys : List ℕ) → putMid f (length o - f) o ys ≡ take f o ++ ys
-  back ys =
-      let e : drop (length o - f) (drop f o) ≡ [] = drop-of-length-le (drop f o) {i = length o - f} (rw (length-drop f o) (omega arith)) in
-      ap (λ (z : List ℕ). take f o ++ (ys ++ z)) e ∙ ap (λ (z : List ℕ). take f o ++ z) (append-nil ys)
-
-  wrote-more : (l ys : List ℕ) (n : ℕ) → Wrote l (take (length o - f) (drop f o)) ys n → Wrote (done ++ l) o₀ (putMid f (length o - f) o ys) (f + n)
-  wrote-more l ys n v =
-      let size = length-append done l in
-      let rest : drop (length l) (take (length o - f) (drop f o)) ≡ drop (length (done ++ l)) o₀ =
-      ap (λ (z : List ℕ). drop (length l) z) (lent ∙ behind) ∙ drop-drop (length l) (length done) o₀ ∙ ap (λ (i : ℕ). drop i o₀) (sym size) in
-      record {
-        bytes =
-            back ys
-            ∙ ap₂ (λ (x y : List ℕ). x ++ y) front (v .bytes ∙ ap (λ (z : List ℕ). l ++ z) rest)
-            ∙ sym (append-assoc done l (drop (length (done ++ l)) o₀));
-        count = ap₂ (λ (x y : ℕ). x + y) (w .count) (v .count) ∙ sym size;
-      }
+  wrote-more : (l ys : List ℕ) (n : ℕ) → length ys ≡ length (take (length o - f) (drop f o)) → Wrote l (take (length o - f) (drop f o)) ys n → Wrote (done ++ l) o₀ (putMid f (length o - f) o ys) (f + n)
+  wrote-more l ys n long v =
+      let part = part-length in
+      let fits = wrote-inside l (take (length o - f) (drop f o)) ys n v in
+      let m = put-more o₀ o done f put l ys n (sym (v .count)) (omega arith) (v .bytes ∙ ap (λ (i : ℕ). l ++ drop i (take (length o - f) (drop f o))) (sym (v .count))) in
+      record { bytes = m .is ∙ ap (λ (i : ℕ). (done ++ l) ++ drop i o₀) (sym (m .size)); count = sym (m .size) }
 
 -- ---- the lists, turn by turn
 
@@ -66,8 +49,11 @@ pub going-start : (t input : List ℕ) (first : ℕ) (o : List ℕ) → first �
 going-start t input first o inside room = record { done = []; wrote = record { bytes = refl; count = refl }; rest = refl; inside = inside; few = omega arith; room = omega arith; same = refl }
 
 module _ (t input : List ℕ) (first : ℕ) (o₀ o : List ℕ) (at number filled : ℕ) (going : Going t input first o₀ o at number filled) where
+  within : filled ≤ length o₀
+  within = omega (arith, going .room, going .same)
+
   pub going-part : length (take (length o - filled) (drop filled o)) ≡ length o - filled
-  going-part = lent-length (going .done) o₀ o filled (going .wrote)
+  going-part = part-length (going .done) o₀ o filled (going .wrote) within ∙ ap (λ (n : ℕ). n - filled) (sym (going .same))
 
   pub going-kept : (ys : List ℕ) → length ys ≡ length (take (length o - filled) (drop filled o)) → length (putMid filled (length o - filled) o ys) ≡ length o
   going-kept ys long = same-len-mid filled (length o - filled) o ys long
@@ -81,7 +67,7 @@ module _ (t input : List ℕ) (first : ℕ) (o₀ o : List ℕ) (at number fille
           → Wrote (linesFrom t 1 (drop first input)) o₀ (putMid filled (length o - filled) o ys) (filled + n)
       going-end (stopped l q v e m) ended =
           let whole : going .done ++ l ≡ linesFrom t 1 (drop first input) = ap (λ (b : List ℕ). going .done ++ b) (sym (lines-last t number (drop at input) l q)) ∙ going .rest in
-          subst (λ (b : List ℕ). Wrote b o₀ (putMid filled (length o - filled) o ys) (filled + n)) whole (wrote-more (going .done) o₀ o filled (going .wrote) l ys n v)
+          subst (λ (b : List ℕ). Wrote b o₀ (putMid filled (length o - filled) o ys) (filled + n)) whole (wrote-more (going .done) o₀ o filled (going .wrote) within l ys n long v)
       going-end (went l q v f i m) ended = absurd (clash m ended)
 
       pub going-on : Turned (turn t number (drop at input)) input at (take (length o - filled) (drop filled o)) ys n next more → more ≡ true
@@ -98,7 +84,7 @@ module _ (t input : List ℕ) (first : ℕ) (o₀ o : List ℕ) (at number fille
           let k = going-kept ys long in
           record {
             done = going .done ++ l;
-            wrote = wrote-more (going .done) o₀ o filled (going .wrote) l ys n v;
+            wrote = wrote-more (going .done) o₀ o filled (going .wrote) within l ys n long v;
             rest =
                 append-assoc (going .done) l (linesFrom t (number + 1) (drop next input))
                 ∙ ap (λ (b : List ℕ). going .done ++ b) (sym (lines-more t number (drop at input) l (drop next input) q))
