@@ -18,7 +18,7 @@ use Rattle.grammar.specs.Template.{Template, anyLength}
 use Rattle.grammar.specs.Whole.{bodyHere, templateHere, readTemplate}
 use Rattle.grammar.proofs.ReadApart.{clash}
 use Rattle.grammar.proofs.RefusalNumbers.{Cases, isRefused, isRead, read-cases, template-row}
-use Rattle.lines.specs.Line.{decimal, spaced, line}
+use Rattle.lines.specs.Line.{decimal, spaceThen, spaced, line}
 use Rattle.lines.proofs.Lines.{byte-next, digit-next, line-length}
 use Rattle.stream.specs.Input.{recordFault, putInteger, integers, listFault, listHere, afterTemplate, templateIn, reached}
 use Rattle.stream.proofs.Lists.{record-long}
@@ -70,19 +70,11 @@ list-fault s r e =
 
 -- ---- the line of the last turn
 
-fault-line : (k r : ℕ) → r < 256 → length (line k (r ∷ 0 ∷ [])) ≤ length (decimal k) + 7
+-- a fault's line is its number's digits, what the refusal takes, and three bytes
+fault-line : (k r d : ℕ) → length (spaceThen r) ≤ d → length (line k (r ∷ 0 ∷ [])) ≤ length (decimal k) + d + 3
 unfolding spaced
-fault-line k r small =
+fault-line k r d number =
     let size = line-length k r 0 [] in
-    let number = byte-next r small in
-    let count = digit-next 0 (omega arith) in
-    omega arith
-
-digit-line : (k r : ℕ) → r < 10 → length (line k (r ∷ 0 ∷ [])) ≤ length (decimal k) + 5
-unfolding spaced
-digit-line k r small =
-    let size = line-length k r 0 [] in
-    let number = digit-next r small in
     let count = digit-next 0 (omega arith) in
     omega arith
 
@@ -103,8 +95,8 @@ last-size t k s l e =
         let same : line k (r ∷ 0 ∷ []) ≡ l = cc in
         let n = ap length same in
         ⊎-elim
-        (λ (a : r < 10). let d = digit-line k r a in let b : 0 < length s = omega arith in record { few = omega arith; by-bytes = omega arith })
-        (λ (a : (r < 256) × (2 ≤ length s)). let d = fault-line k r (a .0) in let b = a .1 in record { few = omega arith; by-bytes = omega arith })
+        (λ (a : r < 10). let d = fault-line k r 2 (digit-next r a) in let b : 0 < length s = omega arith in record { few = omega arith; by-bytes = omega arith })
+        (λ (a : (r < 256) × (2 ≤ length s)). let d = fault-line k r 4 (byte-next r (a .0)) in let b = a .1 in record { few = omega arith; by-bytes = omega arith })
         (list-fault s r h)
 
 -- ---- the line of a refused input
@@ -141,7 +133,7 @@ reached-refusal s r e = size (ltb 65536 (length s)) e
         (refused-by (recordFault 0x50 3 s) (orRefuse (ltb (length s) (afterTemplate s)) 3 rest) r q)
 
 pub refusal-size : (s : List ℕ) (r : ℕ) → reached s ≡ refuse r → length (line 0 (r ∷ 0 ∷ [])) ≤ length (decimal 0) + 7
-refusal-size s r e = fault-line 0 r (reached-refusal s r e)
+refusal-size s r e = let d = fault-line 0 r 4 (byte-next r (reached-refusal s r e)) in omega arith
 
 -- ---- an accepted template has two bytes
 
