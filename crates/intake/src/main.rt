@@ -4,7 +4,9 @@ ghost use mathlib.Core.Path.{_≡_};
 ghost use mathlib.Core.Bool.{true};
 ghost use Prim.Native.Nat.{_+_, _*_, _≤_};
 ghost use lib.ListN.{length};
-ghost use Rattle.io.specs.Counts.{Counts};
+ghost use lib.IntN.{pos};
+ghost use lib.Signed.{ltZ};
+ghost use Rattle.io.specs.Counts.{Counts, clamped};
 use libc::STDERR_FILENO;
 use libc::STDIN_FILENO;
 use libc::STDOUT_FILENO;
@@ -33,15 +35,22 @@ struct Taken {
     failed: bool,
 }
 
+// What an answer of `read` says of the part that it was to fill: a negative one is a failure, 0 the end of the input.
+fn taken_by(got: isize, part: &[u8]) -> Taken
+    ensures { λ r. ⌜ (r .n ≡ clamped got (length (now (part .entry)))) × (r .failed ≡ ltZ got (pos 0)) ⌝ }
+{
+    Taken {
+        n: io::count(got, part),
+        failed: got < 0,
+    }
+}
+
 // Reads once. No byte is read at the end of the input, and where reading fails.
 fn read_once(part: &mut [u8]) -> Taken
     ensures { λ r. ⌜ (r .n ≤ length (now (part .exit))) × (r .failed ≡ true → r .n ≡ 0) ⌝ }
 {
     let got = libc::read(STDIN_FILENO, part);
-    Taken {
-        n: io::count(got, part),
-        failed: got < 0,
-    }
+    taken_by(got, part)
 }
 
 // Reads until the input ends, reading fails or the buffer is full.
