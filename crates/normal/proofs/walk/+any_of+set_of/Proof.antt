@@ -71,7 +71,7 @@ any-of-empty-requires : (t : ℕ) → any-of-lts.Need-empty-requires (any-of-cal
 any-of-empty-requires t c κs = tt
 
 any-of-loop-holds : (t : ℕ) → any-of-lts.Need-loop-holds (any-of-calls t) (any-of-at t) any-of.Post any-of-Inv-loop any-of-μ-loop
-any-of-loop-holds t c = (chain-start _ _ _ _ (spans (c .empty .result)) (c .empty .ensures .ranges) (c .before .before .pre .1), c .empty .ensures .count ∙ sym (ap length (c .empty .ensures .ranges)), search needs, search needs)
+any-of-loop-holds t c = (chain-start _ _ _ _ (spans (c .empty .result)) (c .empty .ensures .shown .ranges) (c .before .before .pre .1), c .empty .ensures .shown .count ∙ sym (ap length (c .empty .ensures .shown .ranges)), search needs, search needs)
 
 -- a turn: where the walk stands, and the element template that is looked at
 module _ (t : ℕ) (c : any-of-lts.In-loop (any-of-calls t) (any-of-at t) any-of.Post any-of-Inv-loop any-of-μ-loop) where
@@ -293,7 +293,7 @@ set-of-returns-2 t c =
     let s = c .before .before .before .before .before .before .before .before in
     let v = c .before .before .any-of2 in
     let rs = spans (c .gaps .result) in
-    let shown = c .gaps .ensures .1 in
+    let shown = c .gaps .ensures .1 .shown in
     let found = complement-here-set (bytes t s) (at t s) (left t s) (spans (v .result .set)) rs _ (c .before .before .before .before .if2 .taken) (v .ensures .ascending) (shown .ranges) (v .ensures .right) in
     let small : length rs ≤ 65 = here-small (bytes t s) (at t s) (left t s) rs _ (s .pre .1) (found .0) (found .1) in
     record { few = omega (arith, shown .count, ap length (shown .ranges)); ascending = found .0; right = found .1 }
@@ -312,9 +312,9 @@ set-of-returns-3 t c =
     let l = c .before .before .before .bounds-at .result in
     let wa : Word (l .lower) = search needs in
     let wb : Word (l .upper) = search needs in
-    let is : spans (c .one .result) ≡ span (l .lower) (l .upper) ∷ [] = c .one .ensures .ranges ∙ rw (again-same (l .lower) wa, again-same (l .upper) wb) in
+    let is : spans (c .one .result) ≡ span (l .lower) (l .upper) ∷ [] = c .one .ensures .shown .ranges ∙ rw (again-same (l .lower) wa, again-same (l .upper) wb) in
     let found = leaf-here-set (bytes t s) (at t s) (left t s) (spans (c .one .result)) (l .lower) (l .upper) _ is (a-leaf t s kind) kind (c .before .before .before .bounds-at .ensures) in
-    record { few = omega (arith, c .one .ensures .count); ascending = found .0; right = found .1 }
+    record { few = omega (arith, c .one .ensures .shown .count); ascending = found .0; right = found .1 }
 
 pub +any-of+set-of-spec : {M : Type 1} → statement M
 +any-of+set-of-spec = close μ-any-of μ-set-of (λ t. any-of-lts.spec (any-of-calls t)
