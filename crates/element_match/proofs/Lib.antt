@@ -1,5 +1,7 @@
 -- What the proofs of several functions use.
+-- Asked  == the asked elements, gone through one by one
 -- Walks  == a leaf's test, and the walk over several members, turn by turn
--- Unique == the promise allows one result only
+-- Unique == each promise allows one result only
+mod Asked
 mod Walks
 pub mod Unique

@@ -1,15 +1,24 @@
--- The public function's promise allows one result only, stated of the contract itself. Assumes nothing.
+-- The public functions' promises allow one result only, stated of the contracts themselves. Assumes nothing.
 use mathlib.Core.Path.{_≡_, sym, _∙_}
 use borrow.Fn.Kinds.{Dens, resT, endedOf}
 use contract.Lifetimes.{Lfts}
 use denote.Triple.Clauses.{AtExit}
-use Rattle.element_match.proofs.match_element.Reads as match-element
-use Rattle.element_match.proofs.match_element.Kinds as match-element-kinds
-use Rattle.facts.proofs.Slices.{same-place}
+use Rattle.masks.proofs.Masks.{bits-same}
+use Rattle.element_match.proofs.hits.Reads as hits-reads
+use Rattle.element_match.proofs.hits.Kinds as hits-kinds
+use Rattle.element_match.proofs.hit.Reads as hit-reads
+use Rattle.element_match.proofs.hit.Kinds as hit-kinds
 
-pub match-element-unique : (κs : Lfts 1) (a : Dens κs match-element-kinds.ps) (r r′ : resT match-element-kinds.r κs .Denot) (s s′ : AtExit (endedOf 1 match-element-kinds.ps match-element-kinds.r) κs)
-    → match-element.Pre κs a → match-element.Post κs a r s → match-element.Post κs a r′ s′ → (r .hit ≡ r′ .hit) × (r .next ≡ r′ .next)
-match-element-unique κs a r r′ s s′ w p q =
-    let u = p .right (w .what) (w .leaves) (w .rest) (w .reads) in
-    let v = q .right (w .what) (w .leaves) (w .rest) (w .reads) in
-    (u .0 ∙ sym (v .0), same-place _ _ _ (p .inside) (q .inside) (u .1 ∙ sym (v .1)))
+pub hits-unique : (κs : Lfts 2) (a : Dens κs hits-kinds.ps) (r r′ : resT hits-kinds.r κs .Denot) (s s′ : AtExit (endedOf 2 hits-kinds.ps hits-kinds.r) κs)
+    → hits-reads.Pre κs a → hits-reads.Post κs a r s → hits-reads.Post κs a r′ s′ → r ≡ r′
+hits-unique κs a r r′ s s′ w p q =
+    let here = w .0 in
+    let u = p .right (here .what) (here .leaves) (here .rest) (here .reads) in
+    let v = q .right (here .what) (here .leaves) (here .rest) (here .reads) in
+    bits-same r r′ (λ j. u .told j ∙ sym (v .told j))
+
+pub hit-unique : (κs : Lfts 2) (a : Dens κs hit-kinds.ps) (r r′ : resT hit-kinds.r κs .Denot) (s s′ : AtExit (endedOf 2 hit-kinds.ps hit-kinds.r) κs)
+    → hit-reads.Pre κs a → hit-reads.Post κs a r s → hit-reads.Post κs a r′ s′ → r ≡ r′
+hit-unique κs a r r′ s s′ w p q =
+    let here = w .0 in
+    p .right (here .what) (here .leaves) (here .rest) (here .reads) ∙ sym (q .right (here .what) (here .leaves) (here .rest) (here .reads))

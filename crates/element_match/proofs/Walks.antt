@@ -1,18 +1,22 @@
--- The walk over the members of a list or a complement, turn by turn, with the sign of what it says: whether at least one of them matches
--- (turned false), or whether none does (turned true). The invariant: whatever the members still to come give completes the whole.
+-- The walk over the members of a list or a complement, turn by turn: who is asked about, and missed by the members so far. The invariant: however
+-- the members were read, those still to come are the rest of them, and the mask has the asked elements that none of the others matches.
 -- Assumes nothing.
 use mathlib.Core.Path.{_≡_, refl, sym, ap, _∙_, subst}
-use mathlib.Core.Bool.{Bool, true, false, not, _||_, _&&_, cond}
+use mathlib.Core.Bool.{Bool, true, false, not, _||_, _&&_, cond, or-false}
+use mathlib.Core.Logic.{⊎-elim}
 use mathlib.Core.List.{List}
 use Prim.Native.Nat.{ℕ, _+_, _-_, _≤_, _<_}
 use native.Mathlib.Omega.{arith}
-use lib.IntN.{ℤ}
+use lib.Dec.{eqb}
+use borrow.Author.Tests.{eqb-true}
+use lib.IntN.{ℤ, pos}
 use lib.Signed.{leZ}
 use lib.ListN.{length, getD, drop}
-use mir.Syntax.{w32}
-use mir.Val.{toZ, ofZ, SFits}
-use mir.Facts.{toZ-ofZ}
+use Rattle.facts.proofs.Cases.{same?, clash}
+use Rattle.masks.specs.Masks.{bit, Plus}
+use Rattle.masks.proofs.Masks.{bit-none, bits-same}
 use Rattle.integers.specs.Integer.{Word}
+use Rattle.integers.proofs.SignedLocals.{again, again-same}
 use Rattle.grammar.specs.Element.{Elem, Elems}
 use Rattle.grammar.specs.Leaf.{Leaf, leafHead}
 use Rattle.grammar.specs.Read.{got}
@@ -22,16 +26,52 @@ use Rattle.grammar.proofs.ReadApart.{grouped, many-inv, many-none}
 use Rattle.elements.specs.Leaves.{LeafHere, BoundsHere}
 use Rattle.elements.proofs.LeafByKind.{bounds-test}
 use Rattle.elements.proofs.ElementByKind as by-kind
-use Rattle.element_match.specs.Contract.{ElementAt, HitAt, LeafHit, Members, turn, WalkHit}
-use Rattle.element_match.specs.declared.Walk.{Walk}
+use Rattle.element_match.specs.Contract.{ElementAt, Among, Tells, Missed, HitsAt, OneHit, Members, turn, WalkTells}
 
--- ---- a leaf
+-- ---- tests
 
-pub bounds-hit : (t : List ℕ) (at : ℕ) (x lower upper : ℤ) (hit : Bool) (next : ℕ) → Word x → BoundsHere t at lower upper next → hit ≡ (leZ lower x && leZ x upper) → LeafHit t at x hit next
-bounds-hit t at x lower upper hit next w h e = record {
-  inside = h .inside;
-  right = λ l rest r. (e ∙ sym (bounds-test t at lower upper next h l rest r x w), h .right l rest r .2);
-}
+-- two tests that agree on the asked elements tell the same
+pub tells-same : {asked mask : ℕ} {test test′ : ℕ → Bool} → ((j : ℕ) → bit asked j ≡ true → test j ≡ test′ j) → Tells asked test mask → Tells asked test′ mask
+tells-same {asked} {mask} {test} {test′} same h = record { told = λ j. h .told j ∙ go j (bit asked j) refl }
+  where
+    go : (j : ℕ) (b : Bool) → bit asked j ≡ b → (bit asked j && test j) ≡ (bit asked j && test′ j)
+    go j true q = ap (λ (v : Bool). bit asked j && v) (same j q)
+    go j false q = rw q refl
+
+not-not : (b : Bool) → not (not b) ≡ b
+not-not true = refl
+not-not false = refl
+
+-- who is missed by those before and by one more
+both-missed : (asked before one : Bool) → ((asked && not before) && not one) ≡ (asked && not (before || one))
+both-missed true true one = refl
+both-missed true false one = refl
+both-missed false before one = refl
+
+or-assoc : (a b c : Bool) → (a || (b || c)) ≡ ((a || b) || c)
+or-assoc true b c = refl
+or-assoc false b c = refl
+
+and-true : (a : Bool) → a ≡ (a && true)
+and-true true = refl
+and-true false = refl
+
+asked-for : (asked test : Bool) → (asked && test) ≡ true → asked ≡ true
+asked-for true test q = refl
+asked-for false test q = q
+
+-- whoever is missed was asked about
+pub still-among : {asked mask : ℕ} {test : ℕ → Bool} {xs : List ℤ} → Tells asked test mask → Among asked xs → Among mask xs
+still-among {asked} {mask} {test} h among = record { inside = λ j q. among .inside j (asked-for (bit asked j) (test j) (sym (h .told j) ∙ q)) }
+
+-- a mask that can have one number only has it, or is 0
+some-or-none : (mask j : ℕ) (b : Bool) → bit mask j ≡ b → ((v : ℕ) → (v ≡ j → ⊥) → bit mask v ≡ false) → not (eqb mask 0) ≡ b
+some-or-none mask j true here there = not-zero (eqb mask 0) refl
+  where
+    not-zero : (z : Bool) → eqb mask 0 ≡ z → not z ≡ true
+    not-zero true q = absurd (clash here (ap (λ (n : ℕ). bit n j) (eqb-true mask 0 q) ∙ bit-none j))
+    not-zero false q = refl
+some-or-none mask j false here there = ap (λ (n : ℕ). not (eqb n 0)) (bits-same mask 0 (λ v. ⊎-elim (λ (z : v ≡ j). rw z here ∙ sym (bit-none v)) (λ (z : v ≡ j → ⊥). there v z ∙ sym (bit-none v)) (same? v j)))
 
 -- ---- the member at p
 
@@ -49,10 +89,10 @@ pub record Opened (t : List ℕ) (p left : ℕ) : Type 0 where
   pub deep : 0 < left
   pub members : Members t (p + 2) (getD t (p + 1) 0) (left - 1)
 
--- whether it matches x, and the place after it
-pub record MemberHit (t : List ℕ) (p left : ℕ) (x : ℤ) (hit : Bool) (next : ℕ) : Type 0 where
+-- the asked elements that it misses, and the place after it
+pub record MemberMisses (t : List ℕ) (p left : ℕ) (xs : List ℤ) (asked mask next : ℕ) : Type 0 where
   pub inside : next ≤ length t
-  pub right : (k : ℕ) (e : Elem Leaf) (k′ : ℕ) (s′ : List ℕ) → elem leafHead left k (drop p t) ≡ got (counted e k′) s′ → (hit ≡ matches e x) × (drop next t ≡ s′)
+  pub right : (k : ℕ) (e : Elem Leaf) (k′ : ℕ) (s′ : List ℕ) → elem leafHead left k (drop p t) ≡ got (counted e k′) s′ → Tells asked (λ j. not (matches e (getD xs j (pos 0)))) mask × (drop next t ≡ s′)
 
 module _ (t : List ℕ) (p left : ℕ) (w : Here t p left) where
   pub here-fits : p + 1 ≤ length t
@@ -74,70 +114,60 @@ module _ (t : List ℕ) (p left : ℕ) (w : Here t p left) where
   pub opened-last : 4 ≤ getD t p 0 → (getD t p 0 ≡ 4 → ⊥) → Opened t p left
   opened-last l n = opened true (last-kind l n)
 
-module _ (t : List ℕ) (p left : ℕ) (x : ℤ) (hit : Bool) (next : ℕ) where
-  pub leaf-member : getD t p 0 < 4 → LeafHit t p x hit next → MemberHit t p left x hit next
+module _ (t : List ℕ) (p left : ℕ) (xs : List ℤ) (asked mask next : ℕ) where
+  pub leaf-misses : (lower upper : ℤ) → getD t p 0 < 4 → BoundsHere t p lower upper next → Missed xs asked lower upper mask → MemberMisses t p left xs asked mask next
   unfolding matchesBy
-  leaf-member low h = record {
+  leaf-misses lower upper low h m = record {
     inside = h .inside;
     right = λ k e k′ s′ r.
-        let a = by-kind.by-leaf t p left k e k′ s′ r low in
-        let v = h .right (a .l) s′ (a .reads) in
-        (v .0 ∙ sym (ap (λ o. matches o x) (a .is)), v .1);
+        let a = by-kind.by-leaf t p left k e k′ s′ r low in (
+          tells-same
+              (λ j q. ap not (sym (ap (λ o. matches o (getD xs j (pos 0))) (a .is) ∙ bounds-test t p lower upper next h (a .l) s′ (a .reads) (getD xs j (pos 0)) (m .words j q))))
+              (m .outside),
+          h .right (a .l) s′ (a .reads) .2,
+        );
   }
 
+  -- the bounds as the machine reads them back from their bits
+  pub leaf-misses-again : (lower upper : ℤ) → Word lower → Word upper → getD t p 0 < 4 → BoundsHere t p lower upper next → Missed xs asked (again lower) (again upper) mask → MemberMisses t p left xs asked mask next
+  leaf-misses-again lower upper l u low h m = leaf-misses lower upper low h (rw (again-same lower l, again-same upper u) at m)
+
   -- a list (c false) or a complement (c true)
-  pub group-member : (c : Bool) → getD t p 0 ≡ cond c 5 4 → WalkHit c t (p + 2) (getD t (p + 1) 0) (left - 1) x hit next → MemberHit t p left x hit next
+  pub group-misses : (c : Bool) → getD t p 0 ≡ cond c 5 4 → WalkTells (not c) t (p + 2) (getD t (p + 1) 0) (left - 1) xs asked mask next → MemberMisses t p left xs asked mask next
   unfolding matchesBy
-  group-member c e h = record {
+  group-misses c e h = record {
     inside = h .inside;
     right = λ k v k′ s′ r.
         let g = by-kind.by-group t p left k v k′ s′ r c e in
         let y = h .right k (g .es) k′ s′ (g .reads) in
-        (y .0 ∙ grouped-matches c (g .es) ∙ ap (λ o. matches o x) (sym (g .is)), y .1);
+        (tells-same (λ j q. grouped-misses c (g .es) (getD xs j (pos 0)) ∙ ap (λ o. not (matches o (getD xs j (pos 0)))) (sym (g .is))) (y .0), y .1);
   }
     where
-      grouped-matches : (c : Bool) (es : Elems Leaf) → turn c (anyMatches es x) ≡ matches (grouped c es) x
-      grouped-matches false es = refl
-      grouped-matches true es = refl
-
-pub moved : (t : List ℕ) (p left : ℕ) (x : ℤ) (w r : Walk) → w ≡ r → MemberHit t p left x (r .hit) (r .next) → MemberHit t p left x (w .hit) (w .next)
-moved t p left x w r e h = rw e h
+      grouped-misses : (c : Bool) (es : Elems Leaf) (x : ℤ) → turn (not c) (anyMatches es x) ≡ not (matches (grouped c es) x)
+      grouped-misses false es x = refl
+      grouped-misses true es x = sym (not-not (anyMatches es x))
 
 -- ---- the walk
 
--- the flag, which begins as `turned`, after a member that matches x or does not
-abbrev pub gathered : Bool → Bool → Bool → Bool
-gathered false flag h = flag || h
-gathered true flag h = flag && not h
+-- the members were read as es: those from p on are es₁, and `ahead` says which integers the others match
+pub record Part (t : List ℕ) (left : ℕ) (xs : List ℤ) (asked : ℕ) (es : Elems Leaf) (after : ℕ) (end : List ℕ) (p m rest : ℕ) : Type 0 where
+  pub k₁ : ℕ
+  pub es₁ : Elems Leaf
+  pub ahead : ℤ → Bool
+  pub reads : many (elem leafHead left) m k₁ (drop p t) ≡ got (counted es₁ after) end
+  pub both : (x : ℤ) → anyMatches es x ≡ (ahead x || anyMatches es₁ x)
+  pub told : Tells asked (λ j. not (ahead (getD xs j (pos 0)))) rest
 
-gathered-first : (turned h : Bool) → turn turned h ≡ gathered turned turned h
-gathered-first false h = refl
-gathered-first true h = refl
-
-gathered-twice : (turned flag h h′ : Bool) → gathered turned flag (h || h′) ≡ gathered turned (gathered turned flag h) h′
-gathered-twice false true h h′ = refl
-gathered-twice false false h h′ = refl
-gathered-twice true true true h′ = refl
-gathered-twice true true false h′ = refl
-gathered-twice true false h h′ = refl
-
-gathered-none : (turned flag : Bool) → gathered turned flag false ≡ flag
-gathered-none false true = refl
-gathered-none false false = refl
-gathered-none true true = refl
-gathered-none true false = refl
-
-pub record Going (turned : Bool) (t : List ℕ) (at n left : ℕ) (x : ℤ) (p m : ℕ) (flag : Bool) : Type 0 where
+pub record Going (t : List ℕ) (at n left : ℕ) (xs : List ℤ) (asked p m rest : ℕ) : Type 0 where
   pub todo : Members t p m left
-  pub goes : (h : Bool) (next : ℕ) → WalkHit false t p m left x h next → WalkHit turned t at n left x (gathered turned flag h) next
+  pub among : Among rest xs
+  pub goes : (k : ℕ) (es : Elems Leaf) (after : ℕ) (end : List ℕ) → many (elem leafHead left) n k (drop at t) ≡ got (counted es after) end → Part t left xs asked es after end p m rest
 
-pub start : (turned : Bool) (t : List ℕ) (at n left : ℕ) (x : ℤ) → Members t at n left → Going turned t at n left x at n turned
-start turned t at n left x m = record {
+pub start : (t : List ℕ) (at n left : ℕ) (xs : List ℤ) (asked : ℕ) → Among asked xs → Members t at n left → Going t at n left xs asked at n asked
+start t at n left xs asked among m = record {
   todo = m;
-  goes = λ h next a. record {
-    inside = a .inside;
-    right = λ k es after rest r. let v = a .right k es after rest r in (sym (gathered-first turned h) ∙ ap (turn turned) (v .0), v .1);
-  };
+  among = among;
+  goes = λ k es after end r. record { k₁ = k; es₁ = es; ahead = λ x. false; reads = r; both = λ x. refl; told = record { told = λ j. and-true (bit asked j) } };
 }
 
 pub here : (t : List ℕ) (p m left : ℕ) → 0 < m → Members t p m left → Here t p left
@@ -145,46 +175,106 @@ here t p m left b q =
     let f = many-inv (elem leafHead left) m (q .leaves) (drop p t) (q .found) (q .after) (q .rest) b (q .reads) in
     record { k = q .leaves; e = f .e; k′ = f .k₁; s′ = f .s₁; reads = f .one }
 
-module _ (t : List ℕ) (p m left : ℕ) (x : ℤ) (h : Bool) (q : ℕ) (b : 0 < m) (w : MemberHit t p left x h q) where
+module _ (t : List ℕ) (p m left : ℕ) (xs : List ℤ) (rest mask q : ℕ) (b : 0 < m) (w : MemberMisses t p left xs rest mask q) where
   next-members : Members t p m left → Members t q (m - 1) left
   next-members z =
       let f = many-inv (elem leafHead left) m (z .leaves) (drop p t) (z .found) (z .after) (z .rest) b (z .reads) in
       let v = w .right (z .leaves) (f .e) (f .k₁) (f .s₁) (f .one) in
       record { inside = w .inside; leaves = f .k₁; found = f .es₁; after = z .after; rest = z .rest; reads = ap (many (elem leafHead left) (m - 1) (f .k₁)) (v .1) ∙ f .others }
 
-  put-hit : (h′ : Bool) (next : ℕ) → WalkHit false t q (m - 1) left x h′ next → WalkHit false t p m left x (h || h′) next
+  next-part : {asked : ℕ} {es : Elems Leaf} {after : ℕ} {end : List ℕ} → Part t left xs asked es after end p m rest → Part t left xs asked es after end q (m - 1) mask
   unfolding matchesBy
-  put-hit h′ next a = record {
-    inside = a .inside;
-    right = λ k es after rest r.
-        let f = many-inv (elem leafHead left) m k (drop p t) es after rest b r in
-        let v = w .right k (f .e) (f .k₁) (f .s₁) (f .one) in
-        let y = a .right (f .k₁) (f .es₁) after rest (ap (many (elem leafHead left) (m - 1) (f .k₁)) (v .1) ∙ f .others) in
-        (ap (λ u. u || h′) (v .0) ∙ ap (λ u. matches (f .e) x || u) (y .0) ∙ sym (ap (λ l. anyMatches l x) (f .both)), y .1);
+  next-part {asked} {es} {after} {end} z =
+      let f = many-inv (elem leafHead left) m (z .k₁) (drop p t) (z .es₁) after end b (z .reads) in
+      let v = w .right (z .k₁) (f .e) (f .k₁) (f .s₁) (f .one) in
+      record {
+        k₁ = f .k₁;
+        es₁ = f .es₁;
+        ahead = λ x. z .ahead x || matches (f .e) x;
+        reads = ap (many (elem leafHead left) (m - 1) (f .k₁)) (v .1) ∙ f .others;
+        both = λ x. z .both x ∙ ap (λ l. z .ahead x || anyMatches l x) (f .both) ∙ or-assoc (z .ahead x) (matches (f .e) x) (anyMatches (f .es₁) x);
+        told = record { told = λ j. v .0 .told j ∙ ap (λ (u : Bool). u && not (matches (f .e) (getD xs j (pos 0)))) (z .told .told j) ∙ both-missed (bit asked j) (z .ahead (getD xs j (pos 0))) (matches (f .e) (getD xs j (pos 0))) };
+      }
+
+  pub step : (at n asked : ℕ) → Going t at n left xs asked p m rest → Going t at n left xs asked q (m - 1) mask
+  step at n asked g =
+      let f = many-inv (elem leafHead left) m (g .todo .leaves) (drop p t) (g .todo .found) (g .todo .after) (g .todo .rest) b (g .todo .reads) in
+      record {
+        todo = next-members (g .todo);
+        among = still-among (w .right (g .todo .leaves) (f .e) (f .k₁) (f .s₁) (f .one) .0) (g .among);
+        goes = λ k es after end r. next-part (g .goes k es after end r);
+      }
+
+module _ (t : List ℕ) (at n left : ℕ) (xs : List ℤ) (asked p m rest : ℕ) where
+  pub done : m ≡ 0 → Going t at n left xs asked p m rest → WalkTells true t at n left xs asked rest p
+  unfolding matchesBy
+  done e g = record {
+    inside = g .todo .inside;
+    right = λ k es after end r.
+        let z = g .goes k es after end r in
+        let v = many-none (elem leafHead left) m (z .k₁) (drop p t) (z .es₁) after end e (z .reads) in
+        let same : (x : ℤ) → z .ahead x ≡ anyMatches es x = λ x. sym (z .both x ∙ ap (λ l. z .ahead x || anyMatches l x) (v .0) ∙ or-false (z .ahead x)) in
+        (tells-same (λ j q. ap not (same (getD xs j (pos 0)))) (z .told), sym (v .2));
   }
 
-  pub step : (turned : Bool) (at n : ℕ) (flag : Bool) → Going turned t at n left x p m flag → Going turned t at n left x q (m - 1) (gathered turned flag h)
-  step turned at n flag g = record {
-    todo = next-members (g .todo);
-    goes = λ h′ next a. subst (λ (u : Bool). WalkHit turned t at n left x u next) (gathered-twice turned flag h h′) (g .goes (h || h′) next (put-hit h′ next a));
-  }
+-- the mask and the place under other names
+pub retold : (turned : Bool) (t : List ℕ) (at n left : ℕ) (xs : List ℤ) (asked : ℕ) {mask mask′ next next′ : ℕ} → mask ≡ mask′ → next ≡ next′ → WalkTells turned t at n left xs asked mask next → WalkTells turned t at n left xs asked mask′ next′
+retold turned t at n left xs asked p q h = rw (sym p, sym q) h
 
-module _ (turned : Bool) (t : List ℕ) (at n left : ℕ) (x : ℤ) (p m : ℕ) (flag : Bool) where
-  pub done : m ≡ 0 → Going turned t at n left x p m flag → WalkHit turned t at n left x flag p
-  unfolding matchesBy
-  done e g =
-      subst (λ (u : Bool). WalkHit turned t at n left x u p) (gathered-none turned flag)
-      (g .goes false p (record { inside = g .todo .inside; right = λ k es after rest r. let v = many-none (elem leafHead left) m k (drop p t) es after rest e r in (sym (ap (λ l. anyMatches l x) (v .0)), sym (v .2)) }))
+pub member-retold : (t : List ℕ) (p left : ℕ) (xs : List ℤ) (asked : ℕ) {mask mask′ next next′ : ℕ} → mask′ ≡ mask → next′ ≡ next → MemberMisses t p left xs asked mask next → MemberMisses t p left xs asked mask′ next′
+member-retold t p left xs asked q r h = rw (q, r) h
 
--- ---- x as the machine reads it back from its bits
-
-pub walk-plain : (turned : Bool) (t : List ℕ) (at n left : ℕ) (x : ℤ) (hit : Bool) (next : ℕ) → SFits w32 x → WalkHit turned t at n left (toZ w32 (ofZ w32 x)) hit next → WalkHit turned t at n left x hit next
-walk-plain turned t at n left x hit next f h = subst (λ (v : ℤ). WalkHit turned t at n left v hit next) (toZ-ofZ f) h
+-- none of them, turned round
+pub turned-round : (t : List ℕ) (at n left : ℕ) (xs : List ℤ) (asked mask mask′ next : ℕ) → ((test : ℕ → Bool) → Tells asked (λ j. not (test j)) mask → Tells asked test mask′)
+    → WalkTells true t at n left xs asked mask next → WalkTells false t at n left xs asked mask′ next
+turned-round t at n left xs asked mask mask′ next turns h = record {
+  inside = h .inside;
+  right = λ k es after rest r. let v = h .right k es after rest r in (turns (λ j. anyMatches es (getD xs j (pos 0))) (v .0), v .1);
+}
 
 -- ---- the element template at a place
 
 pub whole-here : (t : List ℕ) (at : ℕ) → ElementAt t at → Here t at 8
 whole-here t at w = record { k = 0; e = w .what; k′ = w .leaves; s′ = w .rest; reads = w .reads }
 
-pub matched : (t : List ℕ) (at : ℕ) (x : ℤ) (hit : Bool) (next : ℕ) → SFits w32 x → MemberHit t at 8 (toZ w32 (ofZ w32 x)) hit next → HitAt t at x hit next
-matched t at x hit next f h = record { inside = h .inside; right = λ e k rest q. let v = h .right 0 e k rest q in (v .0 ∙ ap (matches e) (toZ-ofZ f), v .1) }
+-- whom it misses, turned round
+pub matched : (t : List ℕ) (at : ℕ) (xs : List ℤ) (asked mask mask′ next : ℕ) → ((test : ℕ → Bool) → Tells asked (λ j. not (test j)) mask → Tells asked test mask′) → MemberMisses t at 8 xs asked mask next
+    → HitsAt t at xs asked mask′
+matched t at xs asked mask mask′ next turns h = record { right = λ e k rest q. turns (λ j. matches e (getD xs j (pos 0))) (h .right 0 e k rest q .0) }
+
+-- a list (c false) or a complement (c true)
+pub group-matched : (t : List ℕ) (at : ℕ) (xs : List ℤ) (asked mask next : ℕ) (c : Bool) → getD t at 0 ≡ cond c 5 4 → WalkTells c t (at + 2) (getD t (at + 1) 0) 7 xs asked mask next → HitsAt t at xs asked mask
+unfolding matchesBy
+group-matched t at xs asked mask next c e h = record {
+  right = λ v k rest q.
+      let g = by-kind.by-group t at 8 0 v k rest q c e in
+      tells-same (λ j z. grouped-matches c (g .es) (getD xs j (pos 0)) ∙ ap (λ o. matches o (getD xs j (pos 0))) (sym (g .is))) (h .right 0 (g .es) k rest (g .reads) .0);
+}
+  where
+    grouped-matches : (c : Bool) (es : Elems Leaf) (x : ℤ) → turn c (anyMatches es x) ≡ matches (grouped c es) x
+    grouped-matches false es x = refl
+    grouped-matches true es x = refl
+
+-- ---- one element
+
+module _ (t : List ℕ) (at : ℕ) (xs : List ℤ) (j : ℕ) where
+  -- a leaf
+  pub leaf-one : (lower upper : ℤ) (next : ℕ) (hit : Bool) → Word (getD xs j (pos 0)) → getD t at 0 < 4 → BoundsHere t at lower upper next
+      → hit ≡ (leZ lower (getD xs j (pos 0)) && leZ (getD xs j (pos 0)) upper) → OneHit t at xs j hit
+  leaf-one lower upper next hit word low h told = record {
+    right = λ e k rest q. told ∙ sym (by-kind.bounds-match t at 8 0 e k rest q lower upper next low h (getD xs j (pos 0)) word);
+  }
+
+  -- of this one only
+  pub only-one : (asked mask : ℕ) → Plus (bit 0) j (bit asked) → HitsAt t at xs asked mask → OneHit t at xs j (not (eqb mask 0))
+  only-one asked mask p h = record {
+    right = λ e k rest q.
+        let told = h .right e k rest q in
+        some-or-none mask j (matches e (getD xs j (pos 0))) (told .told j ∙ rw (p .self) refl)
+            (λ v z. told .told v ∙ rw (p .other v z, bit-none v) refl);
+  }
+
+pub asked-one : (xs : List ℤ) (j asked : ℕ) → j < length xs → Plus (bit 0) j (bit asked) → Among asked xs
+asked-one xs j asked low p = record {
+  inside = λ v q. ⊎-elim (λ (z : v ≡ j). rw z low) (λ (z : v ≡ j → ⊥). absurd (clash q (p .other v z ∙ bit-none v))) (same? v j);
+}

@@ -1,91 +1,139 @@
-// Does this integer match the element template that stands here.
-ghost use mathlib.Core.Bool.{true, false};
-ghost use Rattle.elements.specs.Leaves.{LeafHere};
-ghost use Rattle.element_match.specs.Contract.{ElementAt, HitAt, LeafHit, Members, WalkHit};
+// Which elements of a list match the element template that stands here: those asked about, in one walk over its bytes.
+ghost use mathlib.Core.Path.{_≡_};
+ghost use mathlib.Core.Bool.{Bool, true, false, not};
+ghost use Prim.Native.Nat.{ℕ, _<_, _≤_};
+ghost use lib.ListN.{length};
+ghost use Rattle.element_match.specs.Contract.{ElementAt, Among, Tells, Missed, HitsAt, OneHit, Members, WalkTells, maskIn, placeIn};
 use elements::leaf::bounds_at;
 use format::COUNT_SIZE;
 use format::DEPTH_MOST;
 use format::LIST;
 use integers::within;
+use masks::flip;
+use masks::lowest;
+use masks::with;
 
-// Whether what was walked over matches, and the place after it.
-pub struct Walk {
-    pub hit: bool,
-    pub next: usize,
+// ---- what a walk answers, in one number: the elements, and the place after what was walked over
+fn said(mask: u32, next: usize) -> u64
+    requires { ⌜ next < 65536 ⌝ }
+    ensures { λ r. ⌜ (maskIn r ≡ mask) × (placeIn r ≡ next) ⌝ }
+{
+    ((next as u64) << 32) + mask as u64
 }
 
-// Whether the leaf at `at` matches x.
-fn leaf_hit(t: &[u8], at: usize, x: i32) -> Walk
-    requires { ⌜ LeafHere (now t) at ⌝ }
-    ensures { λ r. ⌜ LeafHit (now (t .entry)) at x (r .hit) (r .next) ⌝ }
+fn mask_in(r: u64) -> u32
+    ensures { λ m. ⌜ m ≡ maskIn r ⌝ }
 {
-    let b = bounds_at(t, at);
-    Walk {
-        hit: within(x, b.lower, b.upper),
-        next: b.next,
+    (r % 0x1_0000_0000) as u32
+}
+
+fn place_in(r: u64) -> usize
+    ensures { λ p. ⌜ p ≡ placeIn r ⌝ }
+{
+    (r >> 32) as usize
+}
+
+// Of the asked elements those that lie outside the bounds.
+fn missed(list: &[i32], asked: u32, lower: i32, upper: i32) -> u32
+    requires { ⌜ Among asked (now list) ⌝ }
+    ensures { λ r. ⌜ Missed (now (list .entry)) asked lower upper r ⌝ }
+{
+    let mut rest = asked;
+    let mut left = asked;
+    while left != 0 {
+        let e = lowest(left);
+        left = flip(left, e);
+        let x = list[e as usize];
+        if within(x, lower, upper) {
+            rest = flip(rest, e);
+        }
     }
+    rest
 }
 
-// Whether at least one of the n element templates at `at` matches x. A leaf is read before any recursive call, which is faster; a kind that is
-// no leaf's and no list's is a complement's.
-fn any_of(t: &[u8], at: usize, n: usize, x: i32, left: usize) -> Walk
-    requires { ⌜ Members (now t) at n left ⌝ }
-    ensures { λ r. ⌜ WalkHit false (now (t .entry)) at n left x (r .hit) (r .next) ⌝ }
+// Of the asked elements all but those.
+fn others(asked: u32, those: u32) -> u32
+    ensures { λ r. ⌜ ((test : ℕ → Bool) → Tells asked (λ j. not (test j)) those → Tells asked test r) ⌝ }
 {
-    let mut hit = false;
+    asked ^ those
+}
+
+// Of the asked elements those that none of the n element templates at `at` matches. Who is matched is not asked about again. A leaf is
+// read before any recursive call, which is faster; a kind that is no leaf's and no list's is a complement's.
+fn none_of(t: &[u8], at: usize, n: usize, list: &[i32], asked: u32, left: usize) -> u64
+    requires { ⌜ Members (now t) at n left × (length (now t) < 65536) × Among asked (now list) ⌝ }
+    ensures { λ r. ⌜ WalkTells true (now (t .entry)) at n left (now (list .entry)) asked (maskIn r) (placeIn r) ⌝ }
+{
+    let mut rest = asked;
     let mut p = at;
     let mut more = n;
     while 0 < more {
         let kind = t[p];
-        let w = if kind < LIST {
-            leaf_hit(t, p, x)
-        } else if kind == LIST {
-            any_of(t, p + COUNT_SIZE, t[p + 1] as usize, x, left - 1)
+        if kind < LIST {
+            let b = bounds_at(t, p);
+            rest = missed(list, rest, b.lower, b.upper);
+            p = b.next;
         } else {
-            none_of(t, p + COUNT_SIZE, t[p + 1] as usize, x, left - 1)
-        };
-        hit = hit | w.hit;
-        p = w.next;
+            let r = if kind == LIST {
+                none_of(t, p + COUNT_SIZE, t[p + 1] as usize, list, rest, left - 1)
+            } else {
+                any_of(t, p + COUNT_SIZE, t[p + 1] as usize, list, rest, left - 1)
+            };
+            rest = mask_in(r);
+            p = place_in(r);
+        }
         more -= 1;
     }
-    Walk { hit, next: p }
+    said(rest, p)
 }
 
-// Whether none of the n element templates at `at` matches x.
-fn none_of(t: &[u8], at: usize, n: usize, x: i32, left: usize) -> Walk
-    requires { ⌜ Members (now t) at n left ⌝ }
-    ensures { λ r. ⌜ WalkHit true (now (t .entry)) at n left x (r .hit) (r .next) ⌝ }
+// Of the asked elements those that at least one of the n element templates at `at` matches.
+fn any_of(t: &[u8], at: usize, n: usize, list: &[i32], asked: u32, left: usize) -> u64
+    requires { ⌜ Members (now t) at n left × (length (now t) < 65536) × Among asked (now list) ⌝ }
+    ensures { λ r. ⌜ WalkTells false (now (t .entry)) at n left (now (list .entry)) asked (maskIn r) (placeIn r) ⌝ }
 {
-    let mut none = true;
-    let mut p = at;
-    let mut more = n;
-    while 0 < more {
-        let kind = t[p];
-        let w = if kind < LIST {
-            leaf_hit(t, p, x)
-        } else if kind == LIST {
-            any_of(t, p + COUNT_SIZE, t[p + 1] as usize, x, left - 1)
-        } else {
-            none_of(t, p + COUNT_SIZE, t[p + 1] as usize, x, left - 1)
-        };
-        none = none & !w.hit;
-        p = w.next;
-        more -= 1;
-    }
-    Walk { hit: none, next: p }
+    let r = none_of(t, at, n, list, asked, left);
+    said(others(asked, mask_in(r)), place_in(r))
 }
 
-// Whether the element template at `at` matches x, and the place after it.
-pub fn match_element(t: &[u8], at: usize, x: i32) -> Walk
-    requires { ⌜ ElementAt (now t) at ⌝ }
-    ensures { λ r. ⌜ HitAt (now (t .entry)) at x (r .hit) (r .next) ⌝ }
+// Of the asked elements those that the element template at `at` matches.
+pub fn hits(t: &[u8], at: usize, list: &[i32], asked: u32) -> u32
+    requires { ⌜ ElementAt (now t) at × (length (now t) < 65536) × Among asked (now list) ⌝ }
+    ensures { λ r. ⌜ HitsAt (now (t .entry)) at (now (list .entry)) asked r ⌝ }
 {
     let kind = t[at];
     if kind < LIST {
-        return leaf_hit(t, at, x);
+        let b = bounds_at(t, at);
+        return others(asked, missed(list, asked, b.lower, b.upper));
     }
     if kind == LIST {
-        return any_of(t, at + COUNT_SIZE, t[at + 1] as usize, x, DEPTH_MOST - 1);
+        return mask_in(any_of(
+            t,
+            at + COUNT_SIZE,
+            t[at + 1] as usize,
+            list,
+            asked,
+            DEPTH_MOST - 1,
+        ));
     }
-    none_of(t, at + COUNT_SIZE, t[at + 1] as usize, x, DEPTH_MOST - 1)
+    mask_in(none_of(
+        t,
+        at + COUNT_SIZE,
+        t[at + 1] as usize,
+        list,
+        asked,
+        DEPTH_MOST - 1,
+    ))
+}
+
+// Whether the element template at `at` matches the element e. A leaf needs no mask.
+pub fn hit(t: &[u8], at: usize, list: &[i32], e: usize) -> bool
+    requires { ⌜ ElementAt (now t) at × (length (now t) < 65536) × (e < length (now list)) × (e < 32) ⌝ }
+    ensures { λ r. ⌜ OneHit (now (t .entry)) at (now (list .entry)) e r ⌝ }
+{
+    if t[at] < LIST {
+        let b = bounds_at(t, at);
+        return within(list[e], b.lower, b.upper);
+    }
+    hits(t, at, list, with(0, e as u8)) != 0
 }

@@ -10,19 +10,19 @@ use mathlib.Core.List.{List, [], _∷_}
 use Prim.Native.Nat.{ℕ, zero, suc, _+_, _≤_, _<_}
 use native.Mathlib.Omega.{arith}
 use native.Mathlib.Nat.{zero-add}
-use borrow.Author.Tests.{le-leb}
-use lib.Dec.{leb}
+use borrow.Author.Tests.{le-leb, ltb-false}
+use lib.Dec.{leb, ltb}
 use lib.ListN.{length, getD, take}
 use lib.IntN.{ℤ, pos}
-use Rattle.facts.proofs.Cases.{below, and-right, both, clash, holds?}
+use Rattle.facts.proofs.Cases.{below, and-right, both, clash, holds?, by-test}
 use Rattle.rows.specs.Rows.{may}
 use Rattle.blocks.specs.Numbers.{blocksIn}
 use Rattle.blocks.specs.Pieces.{Inside, Best, Passing}
 use Rattle.blocks.proofs.FirstLists.{best-same, passing-same, passing-holds}
 use Rattle.grammar.specs.Element.{Elem}
 use Rattle.grammar.specs.Leaf.{Leaf, leafHead}
-use Rattle.grammar.specs.Template.{Item, grouped, one, spares, permutation, Body, recordOf, setOf, superset, subset, Length, anyLength, between, template, membersOfGroup, membersOfItem, membersOfItems, membersOf}
-use Rattle.grammar.specs.Read.{got}
+use Rattle.grammar.specs.Template.{Item, grouped, one, spares, permutation, Body, recordOf, setOf, superset, subset, Length, anyLength, between, Template, template, membersOfGroup, membersOfItem, membersOfItems, membersOf}
+use Rattle.grammar.specs.Read.{Read, refuse, got}
 use Rattle.grammar.specs.Whole.{readTemplate}
 use Rattle.grammar.specs.Matches.{matches}
 use Rattle.grammar.specs.Members.{memberHits}
@@ -51,8 +51,16 @@ planned-ready t p n (aPlan a b q z pl) h l = record { attribute = a; body = b; a
 few : {t : List ℕ} {p : Plan} {n : ℕ} (r : Ready t p n) → length (membersOf (r .body)) ≤ 32
 few r = let s = r .planned .size in let f = r .planned .fewMembers in omega arith
 
+-- what was accepted is no longer than any template
+accepted-short : (t : List ℕ) (o : Template Leaf) → readTemplate leafHead t ≡ got o [] → length t ≤ 4096
+unfolding readTemplate
+accepted-short t o q = by-test (ltb 4096 (length t)) (λ e. absurd (refused (rw e at q))) (λ e. ltb-false 4096 (length t) e)
+  where
+    refused : _≡_ {A = Read (Template Leaf)} (refuse 2) (got o []) → ⊥
+    refused e = let z : _≡_ {A = ℕ} 0 1 = cc in omega arith
+
 pub ready-members : {t : List ℕ} {p : Plan} {n : ℕ} → Ready t p n → MembersAt t (p .places) (p .members)
-ready-members r = record { few = r .planned .fewMembers; who = membersOf (r .body); size = r .planned .size; stands = r .planned .stands }
+ready-members {t} r = record { few = r .planned .fewMembers; short = let l = accepted-short t (template (r .attribute) (r .body)) (r .accepted) in omega arith; who = membersOf (r .body); size = r .planned .size; stands = r .planned .stands }
 
 -- ---- every block's members are below 32
 

@@ -1,7 +1,9 @@
 -- What the proofs of several functions use.
 -- Agreeing == which member matches which element, however it is held
+-- Widening == a list written into 32 integers
 -- RowByRow == one row changed at a time, and the members one by one
 -- Unique == each promise allows one result only
 pub mod Agreeing
 pub mod RowByRow
+mod Widening
 pub mod Unique

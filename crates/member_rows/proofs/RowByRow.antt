@@ -5,30 +5,32 @@ use mathlib.Core.Logic.{⊎-elim}
 use mathlib.Core.List.{List, [], _∷_}
 use Prim.Native.Nat.{ℕ, zero, suc, _+_, _≤_, _<_}
 use native.Mathlib.Omega.{arith}
-use lib.ListN.{length, getD, take, set, replicate, length-set}
-use borrow.Author.Tests.{eqb-true}
-use lib.Dec.{eqb}
-use lib.IntN.{ℤ, pos, negsuc}
+use lib.ListN.{length, getD, take, set, replicate, length-set, List·getD-eq-default}
+use lib.IntN.{ℤ, pos}
 use lib.Signed.{leZ}
 use lib.Seq.{getD-set-same, getD-set-other, set-getD, getD-take}
 use mir.Syntax.{w32}
 use mir.Val.{toZ, ofZ, SFits}
 use mir.Facts.{toZ-ofZ}
 use Rattle.integers.specs.Integer.{Word}
-use Rattle.facts.proofs.Cases.{below, same?, and-left, and-right}
+use Rattle.facts.specs.Counting.{between}
+use Rattle.facts.proofs.Cases.{below, same?, clash, not-so}
+use Rattle.facts.proofs.Spans.{between-in, between-from, between-to, between-past}
 use Rattle.grammar.specs.Element.{Elem}
 use Rattle.grammar.specs.Leaf.{Leaf}
 use Rattle.grammar.specs.Blocks.{StandsAt, Standing}
 use Rattle.grammar.specs.Matches.{matches}
-use Rattle.element_match.specs.Contract.{ElementAt, HitAt}
+use Rattle.element_match.specs.Contract.{ElementAt, Among, HitsAt}
 use Rattle.elements.specs.Leaves.{BoundsHere}
 use Rattle.elements.proofs.ElementByKind.{bounds-match}
-use Rattle.masks.specs.Masks.{bit, Plus}
+use Rattle.masks.specs.Masks.{bit, Plus, Flipped}
+use Rattle.masks.proofs.Masks.{bit-none}
+use Rattle.masks.proofs.OneByOne.{flipped-down}
 use Rattle.rows.specs.Rows.{may}
 use Rattle.rows.proofs.Rows.{row-may, zeros-may}
 use Rattle.grammar.specs.Members.{memberHits}
 use Rattle.member_rows.specs.Contract.{RowsOf}
-use Rattle.member_rows.specs.Places.{MembersAt, Marked, MarkedWithin, MarkedBy}
+use Rattle.member_rows.specs.Places.{MembersAt, Widened, Marked, Added, MarkedWithin, MarkedBy, MembersMarked, Cleared}
 
 -- ---- one row changed
 
@@ -92,15 +94,6 @@ marked-same before m test test′ n rows same g = record {
 pub read-back : (x y : ℤ) → Word x → x ≡ y → toZ w32 (ofZ w32 x) ≡ y
 read-back x y word e = toZ-ofZ (record { sfits = word }) ∙ e
 
--- a test of equal bits, as the machine makes it: the integers are equal
-same-bits : (z : ℤ) (b : ℕ) → Word z → eqb (ofZ w32 z) b ≡ true → toZ w32 b ≡ z
-same-bits z b word e = ap (toZ w32) (sym (eqb-true (ofZ w32 z) b e)) ∙ read-back z z word refl
-
--- the bounds of every 32-bit integer
-pub widest-bounds : (lower upper : ℤ) → Word lower → Word upper → (eqb (ofZ w32 lower) 2147483648 && eqb (ofZ w32 upper) 2147483647) ≡ true
-    → (negsuc 2147483647 ≡ lower) × (pos 2147483647 ≡ upper)
-widest-bounds lower upper l u e = (same-bits lower 2147483648 l (and-left _ _ e), same-bits upper 2147483647 u (and-right (eqb (ofZ w32 lower) 2147483648) _ e))
-
 module _ (before : List ℕ) (m : ℕ) (xs : List ℤ) (lower upper : ℤ) where
   pub within-start : length before ≡ 32 → MarkedWithin before m xs lower upper 0 before
   within-start size = record { words = λ e l. absurd (omega arith); marked = marked-start before m _ size }
@@ -127,30 +120,79 @@ pub within-bounds : (before : List ℕ) (m : ℕ) (xs : List ℤ) (lower upper :
     → MarkedWithin before m xs (toZ w32 (ofZ w32 lower)) (toZ w32 (ofZ w32 upper)) n rows → MarkedWithin before m xs lower upper n rows
 within-bounds before m xs lower upper n rows fl fu g = rw (toZ-ofZ fl, toZ-ofZ fu) at g
 
+-- ---- the elements of a mask, one by one
+
+-- those of `left` are still to be marked
+pub record Marking (before : List ℕ) (m elements : ℕ) (left : ℕ) (rows : List ℕ) : Type 0 where
+  pub size : length rows ≡ 32
+  pub other : (v e : ℕ) → (v ≡ m → ⊥) → may rows v e ≡ may before v e
+  pub done : (e : ℕ) → bit left e ≡ false → may rows m e ≡ (may before m e || bit elements e)
+  pub todo : (e : ℕ) → bit left e ≡ true → bit elements e ≡ true
+
+pub marking-start : (before : List ℕ) (m elements : ℕ) → length before ≡ 32 → Marking before m elements elements before
+marking-start before m elements size = record {
+  size = size;
+  other = λ v e q. refl;
+  done = λ e q. sym (ap (λ (b : Bool). may before m e || b) q ∙ or-false (may before m e));
+  todo = λ e q. q;
+}
+
+module _ (before : List ℕ) (m elements left : ℕ) (rows : List ℕ) (g : Marking before m elements left rows) (e next row : ℕ) (low : e < 32) (here : bit left e ≡ true) (f : Flipped (bit left) e (bit next))
+    (p : Plus (bit (getD rows e 0)) m (bit row)) where
+  there : (v : ℕ) → may (set rows e row) v e ≡ bit row v
+  unfolding may
+  there v = ap (λ (r : ℕ). bit r v) (getD-set-same rows e row 0 (omega (arith, g .size)))
+
+  elsewhere : (v j : ℕ) → (j ≡ e → ⊥) → may (set rows e row) v j ≡ may rows v j
+  unfolding may
+  elsewhere v j z = ap (λ (r : ℕ). bit r v) (getD-set-other rows e j row 0 z)
+
+  pub marking-step : Marking before m elements next (set rows e row)
+  marking-step = record {
+    size = length-set rows e row ∙ g .size;
+    other = λ v j q. ⊎-elim
+        (λ (z : j ≡ e). rw z (there v ∙ p .other v q ∙ row-may rows v e ∙ g .other v e q))
+        (λ (z : j ≡ e → ⊥). elsewhere v j z ∙ g .other v j q)
+        (same? j e);
+    done = λ j q. ⊎-elim
+        (λ (z : j ≡ e). rw z (there m ∙ p .self ∙ sym (ap (λ (b : Bool). may before m e || b) (g .todo e here) ∙ or-true (may before m e))))
+        (λ (z : j ≡ e → ⊥). elsewhere m j z ∙ g .done j (sym (f .other j z) ∙ q))
+        (same? j e);
+    todo = λ j q. g .todo j (flipped-down f here j q);
+  }
+
+pub marking-end : (before : List ℕ) (m elements left : ℕ) (rows : List ℕ) → left ≡ 0 → Marking before m elements left rows → Added before m (bit elements) 32 rows
+marking-end before m elements left rows z g = record { size = g .size; other = g .other; self = λ e l. g .done e (ap (λ (n : ℕ). bit n e) z ∙ bit-none e) }
+
 -- ---- the elements that an element template matches
 
+-- all elements are asked about
+pub all-among : (xs : List ℤ) (all : ℕ) → ((j : ℕ) → bit all j ≡ between 0 (length xs) j) → Among all xs
+all-among xs all span = record { inside = λ j q. between-to 0 (length xs) j (sym (span j) ∙ q) }
+
 module _ (before : List ℕ) (m : ℕ) (t : List ℕ) (at : ℕ) (xs : List ℤ) where
-  pub by-start : length before ≡ 32 → MarkedBy before m t at xs 0 before
-  by-start size = record { marked = λ who s. marked-start before m _ size }
+  -- a leaf matches what lies between its bounds
+  pub leaf-marked : (n : ℕ) (wide : List ℤ) (rows : List ℕ) (lower upper a b : ℤ) (next : ℕ) → length xs ≤ n → Widened xs wide → MarkedWithin before m wide a b n rows → getD t at 0 < 4 → BoundsHere t at lower upper next
+      → a ≡ lower → b ≡ upper → MarkedBy before m t at xs (length xs) rows
+  leaf-marked n wide rows lower upper a b next few w g low h p q = record {
+    marked = λ who s. record {
+      size = g .marked .size;
+      other = g .marked .other;
+      self = λ e l. g .marked .self e (omega arith) ∙ ap (λ (v : Bool). may before m e || v)
+          (rw (p, q) (sym (bounds-match t at 8 0 who (s .leaves) (s .rest) (s .reads) lower upper next low h (getD wide e (pos 0)) (g .words e (omega arith)))) ∙ ap (matches who) (w .same e));
+    };
+  }
 
-  module _ (n : ℕ) (rows : List ℕ) (g : MarkedBy before m t at xs n rows) (x : ℤ) (hit : Bool) (next : ℕ)
-      (told : HitAt t at (toZ w32 (ofZ w32 x)) hit next) (word : Word x) (here : x ≡ getD xs n (pos 0)) where
-    match-told : (who : Elem Leaf) → StandsAt t at who → matches who (getD xs n (pos 0)) ≡ hit
-    match-told who s = sym (told .right who (s .leaves) (s .rest) (s .reads) .0 ∙ ap (matches who) (read-back x _ word here))
-
-    pub by-hit : (row : ℕ) → n < 32 → hit ≡ true → Plus (bit (getD rows n 0)) m (bit row) → MarkedBy before m t at xs (n + 1) (set rows n row)
-    by-hit row low b p = record { marked = λ who s. marked-hit before m _ n rows (g .marked who s) row low (match-told who s ∙ b) p }
-
-    pub by-miss : hit ≡ false → MarkedBy before m t at xs (n + 1) rows
-    by-miss b = record { marked = λ who s. marked-miss before m _ n rows (g .marked who s) (match-told who s ∙ b) }
-
-  -- a leaf matches what lies between its bounds, under whichever names they come
-  pub leaf-marked : (n : ℕ) (rows : List ℕ) (lower upper a b : ℤ) (next : ℕ) → MarkedWithin before m xs a b n rows → getD t at 0 < 4 → BoundsHere t at lower upper next
-      → a ≡ lower → b ≡ upper → MarkedBy before m t at xs n rows
-  leaf-marked n rows lower upper a b next g low h p q = record {
-    marked = λ who s. marked-same before m _ _ n rows
-        (λ e l. rw (p, q) (sym (bounds-match t at 8 0 who (s .leaves) (s .rest) (s .reads) lower upper next low h (getD xs e (pos 0)) (g .words e l))))
-        (g .marked);
+  -- so do lists and complements, by the mask of all elements
+  pub hits-marked : (all elements : ℕ) (rows : List ℕ) → length xs ≤ 32 → ((j : ℕ) → bit all j ≡ between 0 (length xs) j) → HitsAt t at xs all elements → Added before m (bit elements) 32 rows
+      → MarkedBy before m t at xs (length xs) rows
+  hits-marked all elements rows few span h g = record {
+    marked = λ who s. record {
+      size = g .size;
+      other = g .other;
+      self = λ e l. g .self e (omega arith) ∙ ap (λ (v : Bool). may before m e || v)
+          (h .right who (s .leaves) (s .rest) (s .reads) .told e ∙ ap (λ (v : Bool). v && matches who (getD xs e (pos 0))) (span e ∙ between-in 0 (length xs) e (omega arith) l));
+    };
   }
 
 -- ---- the members at their places
@@ -179,19 +221,9 @@ standing-length t (e ∷ es) (p ∷ ps) s = ap suc (standing-length t es ps (s .
 
 -- ---- the rows
 
--- the first k members stand in the rows of the elements that they match, and no other member in any
-pub record RowsTo (es : List (Elem Leaf)) (xs : List ℤ) (k : ℕ) (rows : List ℕ) : Type 0 where
-  pub size : length rows ≡ 32
-  pub right : (m e : ℕ) → m < k → e < length xs → may rows m e ≡ memberHits matches es m (getD xs e (pos 0))
-  pub noMember : (m e : ℕ) → k ≤ m → may rows m e ≡ false
-  pub noElement : (m e : ℕ) → length xs ≤ e → may rows m e ≡ false
-
-pub rows-start : (es : List (Elem Leaf)) (xs : List ℤ) → RowsTo es xs 0 (replicate 32 0)
-rows-start es xs = record { size = refl; right = λ m e l. absurd (omega arith); noMember = λ m e l. zeros-may m e; noElement = λ m e l. zeros-may m e }
-
-module _ (t places : List ℕ) (xs : List ℤ) (members : ℕ) (w : MembersAt t places members) where
+module _ (t places : List ℕ) (members : ℕ) (w : MembersAt t places members) where
   -- whoever stands there, there are so many of them
-  places-count : (es : List (Elem Leaf)) → Standing t es (take members places) → length es ≡ members
+  pub places-count : (es : List (Elem Leaf)) → Standing t es (take members places) → length es ≡ members
   places-count es s = standing-length t es (take members places) s ∙ sym (standing-length t (w .who) (take members places) (w .stands)) ∙ sym (w .size)
 
   -- the member with the number m stands at its place
@@ -206,25 +238,77 @@ module _ (t places : List ℕ) (xs : List ℤ) (members : ℕ) (w : MembersAt t 
       let s = r .stands in
       record { inside = s .inside; what = r .who; leaves = s .leaves; rest = s .rest; reads = s .reads }
 
-  module _ (k : ℕ) (rows : List ℕ) (es : List (Elem Leaf)) (s : Standing t es (take members places)) (r : RowsTo es xs k rows) where
-    pub rows-step : (after : List ℕ) → k < members → MarkedBy rows k t (getD places k 0) xs (length xs) after → RowsTo es xs (k + 1) after
-    rows-step after l h =
-        let who = member-at es k s l in
-        let g = h .marked (who .who) (who .stands) in
+  -- the members first .. k - 1 are marked
+  pub record MarkedTo (before : List ℕ) (first : ℕ) (xs : List ℤ) (k : ℕ) (rows : List ℕ) : Type 0 where
+    pub size : length rows ≡ 32
+    pub other : (v e : ℕ) → between first k v ≡ false → may rows v e ≡ may before v e
+    pub self : (es : List (Elem Leaf)) → Standing t es (take members places) → (m e : ℕ) → first ≤ m → m < k → e < length xs
+        → may rows m e ≡ (may before m e || memberHits matches es m (getD xs e (pos 0)))
+
+  pub marked-none : (before : List ℕ) (first : ℕ) (xs : List ℤ) → length before ≡ 32 → MarkedTo before first xs first before
+  marked-none before first xs size = record { size = size; other = λ v e q. refl; self = λ es s m e i j. absurd (omega arith) }
+
+  module _ (before : List ℕ) (first : ℕ) (xs : List ℤ) (k : ℕ) (rows : List ℕ) (r : MarkedTo before first xs k rows) where
+    pub marked-more : (after : List ℕ) → first ≤ k → k < members → MarkedBy rows k t (getD places k 0) xs (length xs) after → MarkedTo before first xs (k + 1) after
+    marked-more after f l h =
+        let self = member-at (w .who) k (w .stands) l in
+        let o = h .marked (self .who) (self .stands) in
         record {
-          size = g .size;
-          right = λ m e i j. ⊎-elim
-              (λ (z : m ≡ k). rw z (g .self e j ∙ ap (λ (b : Bool). b || matches (who .who) (getD xs e (pos 0))) (r .noMember k e (omega arith)) ∙ sym (who .hits (getD xs e (pos 0)))))
-              (λ (z : m ≡ k → ⊥). g .other m e z ∙ r .right m e (omega arith) j)
-              (same? m k);
-          noMember = λ m e i. g .other m e (λ z. omega arith) ∙ r .noMember m e (omega arith);
-          noElement = λ m e i. ⊎-elim
-              (λ (z : m ≡ k). rw z (g .beyond e i ∙ r .noElement k e i))
-              (λ (z : m ≡ k → ⊥). g .other m e z ∙ r .noElement m e i)
-              (same? m k);
+          size = o .size;
+          other = λ v e q. o .other v e (λ z. clash (between-in first (k + 1) v (omega arith) (omega arith)) q) ∙ r .other v e (not-so (between first k v) (λ b. clash (between-in first (k + 1) v (between-from first k v b) (let l = between-to first k v b in omega arith)) q));
+          self = λ es s m e i j low.
+              let who = member-at es k s l in
+              let g = h .marked (who .who) (who .stands) in
+              ⊎-elim
+                  (λ (z : m ≡ k). rw z (g .self e low ∙ ap (λ (b : Bool). b || matches (who .who) (getD xs e (pos 0))) (r .other k e (between-past first k k (omega arith))) ∙ ap (λ (b : Bool). may before k e || b) (sym (who .hits (getD xs e (pos 0))))))
+                  (λ (z : m ≡ k → ⊥). g .other m e z ∙ r .self es s m e i (omega arith) low)
+                  (same? m k);
         }
 
-    pub rows-end : k ≡ members → RowsOf es xs rows
-    rows-end z =
-        let n = places-count es s in
-        record { size = r .size; right = λ m e i j. r .right m e (omega arith) j; noMember = λ m e i. r .noMember m e (omega arith); noElement = r .noElement }
+    pub marked-all : k ≡ members → MembersMarked before t places first members xs rows
+    marked-all z = record { size = r .size; other = λ v e q. r .other v e (rw z q); self = λ es s m e i j. r .self es s m e i (omega arith) }
+
+-- marked from nothing, and nothing after the list: the rows
+pub rows-end : (t places : List ℕ) (members : ℕ) (w : MembersAt t places members) (xs : List ℤ) (rows after : List ℕ) → MembersMarked (replicate 32 0) t places 0 members xs rows → Cleared (length xs) rows after
+    → (es : List (Elem Leaf)) → Standing t es (take members places) → RowsOf es xs after
+rows-end t places members w xs rows after g c es s =
+    let n = places-count t places members w es s in
+    record {
+      size = c .size;
+      right = λ m e i j. c .kept m e j ∙ g .self es s m e (omega arith) (omega arith) j ∙ ap (λ (b : Bool). b || memberHits matches es m (getD xs e (pos 0))) (zeros-may m e);
+      noMember = λ m e i. ⊎-elim
+          (λ (j : e < length xs). c .kept m e j ∙ g .other m e (between-past 0 members m (omega arith)) ∙ zeros-may m e)
+          (λ (j : length xs ≤ e). c .gone m e j)
+          (below e (length xs));
+      noElement = λ m e i. c .gone m e i;
+    }
+
+-- ---- the rows after the list
+
+pub record Clearing (n e : ℕ) (before rows : List ℕ) : Type 0 where
+  pub size : length rows ≡ 32
+  pub kept : (m j : ℕ) → j < n → may rows m j ≡ may before m j
+  pub gone : (m j : ℕ) → n ≤ j → j < e → may rows m j ≡ false
+
+pub clearing-start : (n : ℕ) (before : List ℕ) → length before ≡ 32 → Clearing n n before before
+clearing-start n before size = record { size = size; kept = λ m j l. refl; gone = λ m j l u. absurd (omega arith) }
+
+module _ (n e : ℕ) (before rows : List ℕ) (g : Clearing n e before rows) where
+  pub clearing-step : n ≤ e → e < 32 → Clearing n (e + 1) before (set rows e 0)
+  unfolding may
+  clearing-step from low = record {
+    size = length-set rows e 0 ∙ g .size;
+    kept = λ m j l. ap (λ (r : ℕ). bit r m) (getD-set-other rows e j 0 0 (λ z. omega arith)) ∙ g .kept m j l;
+    gone = λ m j l u. ⊎-elim
+        (λ (z : j ≡ e). rw z (ap (λ (r : ℕ). bit r m) (getD-set-same rows e 0 0 (omega (arith, g .size))) ∙ bit-none m))
+        (λ (z : j ≡ e → ⊥). ap (λ (r : ℕ). bit r m) (getD-set-other rows e j 0 0 z) ∙ g .gone m j l (omega arith))
+        (same? j e);
+  }
+
+  pub clearing-end : 32 ≤ e → Cleared n before rows
+  unfolding may
+  clearing-end all = record {
+    size = g .size;
+    kept = g .kept;
+    gone = λ m j l. ⊎-elim (λ (i : j < e). g .gone m j l i) (λ (i : e ≤ j). ap (λ (r : ℕ). bit r m) (List·getD-eq-default rows 0 (omega (arith, g .size))) ∙ bit-none m) (below j e);
+  }

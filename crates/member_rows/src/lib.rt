@@ -1,32 +1,50 @@
 // Which member of a template matches which element of a list.
 ghost use mathlib.Core.List.{List};
 ghost use mathlib.Core.Path.{_≡_};
-ghost use Prim.Native.Nat.{_≤_, _<_};
+ghost use Prim.Native.Nat.{_+_, _*_, _/_, _≤_, _<_};
 ghost use lib.ListN.{length, take};
 ghost use Rattle.grammar.specs.Element.{Elem};
 ghost use Rattle.grammar.specs.Leaf.{Leaf};
 ghost use Rattle.element_match.specs.Contract.{ElementAt};
 ghost use Rattle.grammar.specs.Blocks.{Standing};
+ghost use Rattle.masks.specs.Masks.{bit};
 ghost use Rattle.member_rows.specs.Contract.{RowsOf};
-ghost use Rattle.member_rows.specs.Places.{MembersAt, MarkedWithin, MarkedBy};
-use element_match::match_element;
+ghost use Rattle.member_rows.specs.Places.{MembersAt, Widened, Added, MarkedWithin, MarkedBy, MembersMarked, Cleared};
+use element_match::hits;
 use elements::leaf::bounds_at;
-use format::GREATEST;
-use format::LEAST;
 use format::LIST;
+use format::LIST_MOST;
 use integers::within;
+use masks::flip;
+use masks::lowest;
+use masks::span;
 use masks::with;
 
-// Puts member m into the rows of the elements that lie between the bounds, both ends included. Each row is written, changed or not, so that
-// the compiler takes several at a time.
-fn mark_within(rows: &mut [u32; 32], m: u8, list: &[i32], lower: i32, upper: i32)
-    requires { ⌜ (length (now rows) ≡ 32) × (m < 32) × (length (now list) ≤ 32) ⌝ }
-    ensures { λ _. ⌜ MarkedWithin (now (rows .entry)) m (now (list .entry)) lower upper (length (now (list .entry))) (now (rows .exit)) ⌝ }
+// The list, with elements after it so that there are 32.
+pub fn widened(list: &[i32]) -> [i32; 32]
+    requires { ⌜ length (now list) ≤ 32 ⌝ }
+    ensures { λ r. ⌜ Widened (now (list .entry)) r ⌝ }
 {
+    let mut wide = [0i32; 32];
     let mut e: usize = 0;
     while e < list.len() {
+        let x = list[e];
+        wide[e] = x;
+        e += 1;
+    }
+    wide
+}
+
+// Puts member m into the first n rows, of those elements that lie between the bounds, both ends included. Each row is written, changed or not, so
+// that the compiler takes several at a time.
+fn mark_within(rows: &mut [u32; 32], m: u8, wide: &[i32; 32], n: usize, lower: i32, upper: i32)
+    requires { ⌜ (length (now rows) ≡ 32) × (m < 32) × (n ≤ 32) ⌝ }
+    ensures { λ _. ⌜ MarkedWithin (now (rows .entry)) m (now (wide .entry)) lower upper n (now (rows .exit)) ⌝ }
+{
+    let mut e: usize = 0;
+    while e < n {
         let row = rows[e];
-        rows[e] = if within(list[e], lower, upper) {
+        rows[e] = if within(wide[e], lower, upper) {
             with(row, m)
         } else {
             row
@@ -35,38 +53,80 @@ fn mark_within(rows: &mut [u32; 32], m: u8, list: &[i32], lower: i32, upper: i32
     }
 }
 
-// Puts member m into the rows of the elements that the element template at `at` matches. Its bytes are walked over anew for each element.
-fn mark_tested(rows: &mut [u32; 32], m: u8, t: &[u8], at: usize, list: &[i32])
-    requires { ⌜ (length (now rows) ≡ 32) × (m < 32) × ElementAt (now t) at × (length (now list) ≤ 32) ⌝ }
-    ensures { λ _. ⌜ MarkedBy (now (rows .entry)) m (now (t .entry)) at (now (list .entry)) (length (now (list .entry))) (now (rows .exit)) ⌝ }
+// Puts member m into the rows of these elements.
+fn mark_hits(rows: &mut [u32; 32], m: u8, elements: u32)
+    requires { ⌜ (length (now rows) ≡ 32) × (m < 32) ⌝ }
+    ensures { λ _. ⌜ Added (now (rows .entry)) m (bit elements) 32 (now (rows .exit)) ⌝ }
 {
-    let mut e: usize = 0;
-    while e < list.len() {
-        let x = list[e];
-        let w = match_element(t, at, x);
-        if w.hit {
-            rows[e] = with(rows[e], m);
-        }
-        e += 1;
+    let mut left = elements;
+    while left != 0 {
+        let e = lowest(left);
+        left = flip(left, e);
+        let row = rows[e as usize];
+        rows[e as usize] = with(row, m);
     }
 }
 
-// Puts member m into the rows of the elements that the element template at `at` matches. A leaf is read once, for all of them.
-fn mark(rows: &mut [u32; 32], m: u8, t: &[u8], at: usize, list: &[i32])
-    requires { ⌜ (length (now rows) ≡ 32) × (m < 32) × ElementAt (now t) at × (length (now list) ≤ 32) ⌝ }
+// How many rows n elements take, in eights: so many the compiler takes at a time.
+fn in_eights(n: usize) -> usize
+    requires { ⌜ n ≤ 32 ⌝ }
+    ensures { λ r. ⌜ r ≡ (n + 7) / 8 * 8 ⌝ }
+{
+    (n + 7) / 8 * 8
+}
+
+// Puts member m into the rows of the elements that the element template at `at` matches. What stands in the rows after the list is open.
+fn mark(rows: &mut [u32; 32], m: u8, t: &[u8], at: usize, list: &[i32], wide: &[i32; 32])
+    requires { ⌜ (length (now rows) ≡ 32) × (m < 32) × ElementAt (now t) at × (length (now t) < 65536) × (length (now list) ≤ 32) × Widened (now list) (now wide) ⌝ }
     ensures { λ _. ⌜ MarkedBy (now (rows .entry)) m (now (t .entry)) at (now (list .entry)) (length (now (list .entry))) (now (rows .exit)) ⌝ }
 {
+    let n = list.len();
     if t[at] < LIST {
         let b = bounds_at(t, at);
-        if (b.lower == LEAST) & (b.upper == GREATEST) {
-            // The same, with constant bounds: the compiler then leaves no comparison.
-            mark_within(rows, m, list, LEAST, GREATEST);
+        let lines = in_eights(n);
+        if lines == LIST_MOST {
+            // The same, with a constant number of rows: the compiler then leaves no loop.
+            mark_within(rows, m, wide, LIST_MOST, b.lower, b.upper);
             return;
         }
-        mark_within(rows, m, list, b.lower, b.upper);
+        mark_within(rows, m, wide, lines, b.lower, b.upper);
         return;
     }
-    mark_tested(rows, m, t, at, list)
+    let elements = hits(t, at, list, span(0, n as u8));
+    mark_hits(rows, m, elements)
+}
+
+// Puts the members first .. end - 1 into the rows of the elements that each matches. What stands in the rows after the list is open.
+pub fn mark_members(
+    rows: &mut [u32; 32],
+    t: &[u8],
+    places: &[u16; 32],
+    first: usize,
+    end: usize,
+    list: &[i32],
+    wide: &[i32; 32],
+)
+    requires { ⌜ (length (now rows) ≡ 32) × MembersAt (now t) (now places) end × (first ≤ end) × (length (now list) ≤ 32) × Widened (now list) (now wide) ⌝ }
+    ensures { λ _. ⌜ MembersMarked (now (rows .entry)) (now (t .entry)) (now (places .entry)) first end (now (list .entry)) (now (rows .exit)) ⌝ }
+{
+    let mut m = first;
+    while m < end {
+        let at = places[m] as usize;
+        mark(rows, m as u8, t, at, list, wide);
+        m += 1;
+    }
+}
+
+// No member in the rows from n on.
+fn clear_after(rows: &mut [u32; 32], n: usize)
+    requires { ⌜ (length (now rows) ≡ 32) × (n ≤ 32) ⌝ }
+    ensures { λ _. ⌜ Cleared n (now (rows .entry)) (now (rows .exit)) ⌝ }
+{
+    let mut e = n;
+    while e < LIST_MOST {
+        rows[e] = 0;
+        e += 1;
+    }
 }
 
 // Bit m of row e says whether the member at `places[m]` matches element e of the list.
@@ -74,12 +134,9 @@ pub fn rows_of(t: &[u8], places: &[u16; 32], members: usize, list: &[i32]) -> [u
     requires { ⌜ MembersAt (now t) (now places) members × (length (now list) ≤ 32) ⌝ }
     ensures { λ r. ⌜ ((es : List (Elem Leaf)) → Standing (now (t .entry)) es (take members (now (places .entry))) → RowsOf es (now (list .entry)) r) ⌝ }
 {
+    let wide = widened(list);
     let mut rows: [u32; 32] = [0; 32];
-    let mut m: usize = 0;
-    while m < members {
-        let at = places[m] as usize;
-        mark(&mut rows, m as u8, t, at, list);
-        m += 1;
-    }
+    mark_members(&mut rows, t, places, 0, members, list, &wide);
+    clear_after(&mut rows, list.len());
     rows
 }

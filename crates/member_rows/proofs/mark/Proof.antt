@@ -1,9 +1,12 @@
--- `member_rows::mark` meets its contract: a leaf marks the rows of the elements between its bounds, read once. Assumes nothing.
+-- `member_rows::mark` meets its contract: a leaf by its bounds, what has members by the mask of all elements. Assumes nothing.
+use mathlib.Core.Path.{_≡_, refl}
+use Prim.Native.Nat.{_≤_}
 use native.Mathlib.Omega.{arith}
+use lib.ListN.{length}
 use Rattle.integers.specs.Integer.{Word}
 use Rattle.integers.proofs.SignedLocals.{again-same}
 use Rattle.elements.proofs.ElementByKind.{here-fits, leaf-there}
-use Rattle.member_rows.proofs.RowByRow.{widest-bounds, leaf-marked}
+use Rattle.member_rows.proofs.RowByRow.{leaf-marked, hits-marked, all-among}
 use borrow.Author.Needs.{needs}
 use Rattle.member_rows.proofs.mark.Statement.{statement}
 use Rattle.member_rows.proofs.mark.Tie as tie
@@ -19,35 +22,54 @@ bounds-at-requires c κs =
     let w = c .before .before .before .pre .2 in
     leaf-there _ _ 8 0 (w .what) (w .leaves) (w .rest) (w .reads) (c .if1 .taken)
 
+in-eights-requires : tie.Need-in-eights-requires
+in-eights-requires c κs = search needs
+
 mark-within-requires : tie.Need-mark-within-requires
 mark-within-requires c κs = search needs
 
 returns : tie.Need-returns
 returns c =
-    let then = c .before .before in
-    let at-bounds = then .before .before .before .before .before in
+    let at-lines = c .before .before .before .before .before in
+    let at-bounds = at-lines .before in
+    let start = at-bounds .before .before .before .before in
     let b = at-bounds .bounds-at .result in
     let low : Word (b .lower) = search needs in
     let high : Word (b .upper) = search needs in
-    let widest = widest-bounds (b .lower) (b .upper) low high (then .if2 .taken) in
-    leaf-marked _ _ _ _ _ _ _ _ _ _ _ _ (c .mark-within .ensures) (at-bounds .before .if1 .taken) (at-bounds .bounds-at .ensures) (widest .0) (widest .1)
+    let few : length (start .args .list .now) ≤ at-lines .in-eights .result = omega (arith, at-lines .in-eights .ensures) in
+    leaf-marked _ _ _ _ _ _ _ _ _ _ _ _ _ (omega (arith, start .pre .4)) (start .pre .5) (c .mark-within .ensures) (at-bounds .before .if1 .taken) (at-bounds .bounds-at .ensures) (again-same (b .lower) low) (again-same (b .upper) high)
 
 mark-within-requires-2 : tie.Need-mark-within-requires-2
 mark-within-requires-2 c κs = search needs
 
 returns-2 : tie.Need-returns-2
 returns-2 c =
-    let at-bounds = c .before .before .before .before .before .before .before .before .before in
+    let at-lines = c .before .before .before .before .before in
+    let at-bounds = at-lines .before in
+    let start = at-bounds .before .before .before .before in
     let b = at-bounds .bounds-at .result in
     let low : Word (b .lower) = search needs in
     let high : Word (b .upper) = search needs in
-    leaf-marked _ _ _ _ _ _ _ _ _ _ _ _ (c .mark-within2 .ensures) (at-bounds .before .if1 .taken) (at-bounds .bounds-at .ensures) (again-same (b .lower) low) (again-same (b .upper) high)
+    let few : length (start .args .list .now) ≤ at-lines .in-eights .result = omega (arith, at-lines .in-eights .ensures) in
+    leaf-marked _ _ _ _ _ _ _ _ _ _ _ _ _ few (start .pre .5) (c .mark-within2 .ensures) (at-bounds .before .if1 .taken) (at-bounds .bounds-at .ensures) (again-same (b .lower) low) (again-same (b .upper) high)
 
-mark-tested-requires : tie.Need-mark-tested-requires
-mark-tested-requires c κs = search needs
+cast-span : tie.Need-cast-span
+cast-span c = search needs
+
+span-requires : tie.Need-span-requires
+span-requires c κs = search needs
+
+hits-requires : tie.Need-hits-requires
+hits-requires c κs = let p = c .before .before .before .before .pre in (p .2, p .3, all-among _ _ (c .span .ensures))
+
+mark-hits-requires : tie.Need-mark-hits-requires
+mark-hits-requires c κs = search needs
 
 returns-3 : tie.Need-returns-3
-returns-3 c = search needs
+returns-3 c =
+    let hit = c .before .before in
+    let p = c .before .before .before .before .before .before .before .pre in
+    hits-marked _ _ _ _ _ _ _ _ (p .4) (hit .before .span .ensures) (hit .hits .ensures) (c .mark-hits .ensures)
 
 pub mark-spec : {M : Type 1} → statement M
 mark-spec =
@@ -55,9 +77,13 @@ mark-spec =
     (tie.spec
     shared-slice-read-if1
     bounds-at-requires
+    in-eights-requires
     mark-within-requires
     returns
     mark-within-requires-2
     returns-2
-    mark-tested-requires
+    cast-span
+    span-requires
+    hits-requires
+    mark-hits-requires
     returns-3)

@@ -4,7 +4,7 @@ use mathlib.Core.Path.{_≡_, refl, sym, subst}
 use mathlib.Core.Logic.{⊎-elim}
 use Prim.Native.Nat.{ℕ, _+_, _-_, _≤_}
 use native.Mathlib.Omega.{arith}
-use lib.ListN.{length, set}
+use lib.ListN.{set}
 use mir.Syntax.{w32}
 use mir.Val.{toZ, ofZ}
 use borrow.Author.Needs.{needs}
@@ -14,10 +14,10 @@ use Rattle.member_rows.proofs.mark_within.Statement.{statement}
 use Rattle.member_rows.proofs.mark_within.Tie as tie
 
 abbrev Inv-loop : tie.InvT-loop
-Inv-loop rows₀ m list lower upper e₀ rows e = MarkedWithin rows₀ m list (toZ w32 lower) (toZ w32 upper) e rows × (e ≤ length list)
+Inv-loop rows₀ m wide n lower upper e₀ rows e = MarkedWithin rows₀ m wide (toZ w32 lower) (toZ w32 upper) e rows × (e ≤ n)
 
 abbrev μ-loop : tie.MeasureT-loop
-μ-loop rows₀ m list lower upper e₀ rows e = length list - e
+μ-loop rows₀ m wide n lower upper e₀ rows e = n - e
 
 loop-holds : tie.Need-loop-holds Inv-loop μ-loop
 loop-holds c = (within-start _ _ _ _ _ (c .pre .0), omega arith)
@@ -31,8 +31,8 @@ element-copy-out-row c = omega arith
 mul-within : tie.Need-mul-within Inv-loop μ-loop
 mul-within c = omega arith
 
-shared-slice-copy-out-within : tie.Need-shared-slice-copy-out-within Inv-loop μ-loop
-shared-slice-copy-out-within c = omega arith
+element-copy-out-within : tie.Need-element-copy-out-within Inv-loop μ-loop
+element-copy-out-within c = omega arith
 
 within-requires : tie.Need-within-requires Inv-loop μ-loop
 within-requires c κs = search needs
@@ -59,7 +59,7 @@ loop-again c =
     let turn = at-loop .loop in
     let a = at-loop .before .args in
     let word = at-within .before .within-arg .given in
-    let again : ℕ → Type 0 = λ row. MarkedWithin (a .rows .now) (a .m) (a .list .now) (toZ w32 (ofZ w32 (a .lower))) (toZ w32 (ofZ w32 (a .upper))) (turn .e + 1) (set (turn .rows) (turn .e) row) in (
+    let again : ℕ → Type 0 = λ row. MarkedWithin (a .rows .now) (a .m) (a .wide .now) (toZ w32 (ofZ w32 (a .lower))) (toZ w32 (ofZ w32 (a .upper))) (turn .e + 1) (set (turn .rows) (turn .e) row) in (
       ⊎-elim
           (λ w. subst again (sym (w .2)) (within-hit _ _ _ _ _ (turn .e) _ (turn .inv .0) _ _ (at-within .within .ensures) word refl _ (omega arith) (w .0 .taken) (w .1 .ensures)))
           (λ w. subst again (sym (w .1)) (within-kept _ _ _ _ _ (turn .e) _ (turn .inv .0) _ _ (at-within .within .ensures) word refl _ (w .0 .left) refl))
@@ -71,7 +71,7 @@ returns : tie.Need-returns Inv-loop μ-loop
 returns c =
     let start = c .before .before in
     let a = start .args in
-    let z : c .before .loop .e ≡ length (a .list .now) = omega arith in
+    let z : c .before .loop .e ≡ a .n = omega arith in
     let bounded = within-bounds _ _ _ _ _ _ _ (start .fits .lower) (start .fits .upper) (c .before .loop .inv .0) in
     rw z at bounded
 
@@ -85,7 +85,7 @@ mark-within-spec =
     mul-row
     element-copy-out-row
     mul-within
-    shared-slice-copy-out-within
+    element-copy-out-within
     within-requires
     with-requires
     mul-rows
