@@ -1,13 +1,15 @@
 -- A piece of a list: its places, what it counts where nothing is counted outside it, a piece cut at a middle place; and the rest from a place on. Assumes nothing.
 use mathlib.Core.Path.{_≡_, sym, ap, _∙_}
 use mathlib.Core.Bool.{true, false}
-use mathlib.Core.List.{List, _++_}
+use mathlib.Core.List.{List, [], _∷_, _++_}
 use mathlib.Core.Logic.{⊎-elim}
 use Prim.Native.Nat.{ℕ, _+_, _-_, _≤_, _<_}
+use native.Mathlib.Numerals.{add-one}
 use native.Mathlib.Omega.{arith}
+use lib.Dec.{eqb}
 use lib.ListN.{length, getD, take, drop, length-take, length-drop, take-append-drop}
-use lib.Seq.{slice, getD-take, getD-drop, take-take, drop-append-le, ext-getD}
-use Rattle.facts.specs.Counting.{between, cnt}
+use lib.Seq.{slice, slice-empty, slice-cons, getD-take, getD-drop, take-take, drop-append-le, ext-getD}
+use Rattle.facts.specs.Counting.{between, oneIf, cnt}
 use Rattle.facts.proofs.Cases.{not-so, holds?}
 use Rattle.facts.proofs.Spans.{between-from, between-to}
 use Rattle.facts.proofs.Counting.{cnt-append, cnt-none}
@@ -54,3 +56,21 @@ same-around from to w w' n n' s out = ext-getD 0 w w' (n ∙ sym n') (λ i l. �
     ∙ slice-at from to w' j (omega arith) ∙ ap (λ (d : ℕ). getD w' d 0) z)
     (λ (b : between from to i ≡ false). out i (omega arith) b)
     (holds? (between from to i)))
+
+-- ---- one byte more
+
+one-byte : (m x : ℕ) → cnt m (x ∷ []) ≡ oneIf (eqb x m)
+unfolding cnt
+one-byte m x = omega arith
+
+slice-more : (from e : ℕ) (w : List ℕ) → from ≤ e → e < length w → slice from (e + 1) w ≡ slice from e w ++ (getD w e 0 ∷ [])
+slice-more from e w f l =
+    let last : slice e (e + 1) w ≡ getD w e 0 ∷ [] = slice-cons e (e + 1) w 0 (omega arith) (omega arith)
+    ∙ ap (λ (x : List ℕ). getD w e 0 ∷ x) (ap (λ (j : ℕ). slice j (e + 1) w) (sym (add-one e)) ∙ slice-empty (e + 1) w) in
+    slice-split from e (e + 1) w f (omega arith) (omega arith) ∙ ap (λ (x : List ℕ). slice from e w ++ x) last
+
+pub cnt-more : (m from e : ℕ) (w : List ℕ) → from ≤ e → e < length w → cnt m (slice from (e + 1) w) ≡ cnt m (slice from e w) + oneIf (eqb (getD w e 0) m)
+cnt-more m from e w f l =
+    let a = cnt-append m (slice from e w) (getD w e 0 ∷ []) in
+    let o = one-byte m (getD w e 0) in
+    ap (λ (x : List ℕ). cnt m x) (slice-more from e w f l) ∙ omega arith

@@ -13,12 +13,13 @@ use Rattle.blocks.specs.Assignment.{takes}
 use Rattle.facts.proofs.Cases.{same?, holds?, hit}
 use Rattle.facts.proofs.Spans.{between-in, between-to}
 use Rattle.facts.proofs.Counting.{cnt-append}
+use Rattle.facts.proofs.Slices.{cnt-more}
 use Rattle.blocks.proofs.Assignments.{takes-inv}
 use Rattle.blocks.specs.declared.Block.{Block}
 use Rattle.blocks.specs.Pieces.{Fills, Passing}
 use Rattle.blocks.proofs.FirstLists.{passing-true, passing-false}
 use Rattle.judging.specs.Reach.{Fresh, Good}
-use Rattle.judging.proofs.PieceTest.{good-start, good-member, cnt-more}
+use Rattle.judging.proofs.PieceTest.{good-start, good-member}
 
 -- ---- the offered list, byte by byte
 pub record Full (may : ℕ → ℕ → Bool) (b : Block) (e : ℕ) (w : List ℕ) (members : ℕ) : Type 0 where

@@ -2,13 +2,11 @@
 use mathlib.Core.Path.{_≡_, refl, sym, ap, _∙_, subst}
 use mathlib.Core.Logic.{⊎-elim}
 use mathlib.Core.Bool.{Bool, true, false}
-use mathlib.Core.List.{List, [], _∷_, _++_}
+use mathlib.Core.List.{List}
 use Prim.Native.Nat.{ℕ, _+_, _-_, _≤_, _<_}
-use native.Mathlib.Numerals.{add-one}
 use native.Mathlib.Omega.{arith}
-use lib.Dec.{eqb}
 use lib.ListN.{length, getD}
-use lib.Seq.{slice, slice-empty, slice-cons, length-slice}
+use lib.Seq.{slice, slice-empty, length-slice}
 use Rattle.masks.specs.Masks.{bit, Plus}
 use Rattle.facts.specs.Counting.{between, oneIf, cnt}
 use Rattle.blocks.specs.Assignment.{takes, Assigns}
@@ -17,7 +15,7 @@ use Rattle.facts.proofs.Spans.{between-in, between-from, between-to}
 use Rattle.facts.proofs.Counting.{cnt-append}
 use Rattle.masks.proofs.Masks.{bit-none, bits-same}
 use Rattle.blocks.proofs.Assignments.{takes-inv, takes-spare, takes-member}
-use Rattle.facts.proofs.Slices.{slice-at, slice-split}
+use Rattle.facts.proofs.Slices.{slice-at, slice-split, cnt-more}
 use Rattle.blocks.specs.declared.Block.{Block}
 use Rattle.blocks.specs.Pieces.{Takes, Passing}
 use Rattle.judging.specs.Reach.{Fresh, Good, Group, Whole}
@@ -41,23 +39,6 @@ module _ {may : ℕ → ℕ → Bool} {b : Block} {members e x : ℕ} where
   }
 
 -- ---- the piece so far
-one-byte : (m x : ℕ) → cnt m (x ∷ []) ≡ oneIf (eqb x m)
-unfolding cnt
-one-byte m x = omega arith
-
--- one byte more
-slice-more : (from e : ℕ) (w : List ℕ) → from ≤ e → e < length w → slice from (e + 1) w ≡ slice from e w ++ (getD w e 0 ∷ [])
-slice-more from e w f l =
-    let last : slice e (e + 1) w ≡ getD w e 0 ∷ [] = slice-cons e (e + 1) w 0 (omega arith) (omega arith)
-    ∙ ap (λ (x : List ℕ). getD w e 0 ∷ x) (ap (λ (j : ℕ). slice j (e + 1) w) (sym (add-one e)) ∙ slice-empty (e + 1) w) in
-    slice-split from e (e + 1) w f (omega arith) (omega arith) ∙ ap (λ (x : List ℕ). slice from e w ++ x) last
-
-pub cnt-more : (m from e : ℕ) (w : List ℕ) → from ≤ e → e < length w → cnt m (slice from (e + 1) w) ≡ cnt m (slice from e w) + oneIf (eqb (getD w e 0) m)
-cnt-more m from e w f l =
-    let a = cnt-append m (slice from e w) (getD w e 0 ∷ []) in
-    let o = one-byte m (getD w e 0) in
-    ap (λ (x : List ℕ). cnt m x) (slice-more from e w f l) ∙ omega arith
-
 pub good-start : (may : ℕ → ℕ → Bool) (b : Block) (from : ℕ) (w : List ℕ) → Good may b from from w 0
 unfolding cnt
 good-start may b from w = record {

@@ -227,7 +227,7 @@ module _ (t places : List ℕ) (members : ℕ) (w : MembersAt t places members) 
   places-count es s = standing-length t es (take members places) s ∙ sym (standing-length t (w .who) (take members places) (w .stands)) ∙ sym (w .size)
 
   -- the member with the number m stands at its place
-  member-at : (es : List (Elem Leaf)) (m : ℕ) → Standing t es (take members places) → m < members → Member t es places m
+  pub member-at : (es : List (Elem Leaf)) (m : ℕ) → Standing t es (take members places) → m < members → Member t es places m
   member-at es m s l =
       let r = member-stands t es (take members places) m (omega (arith, places-count es s)) s in
       record { who = r .who; stands = rw (sym (getD-take members places m 0 l)) (r .stands); hits = r .hits }
