@@ -1,7 +1,7 @@
 -- What the proofs of several functions use, and what other crates cite.
 -- Rows       == a row is its element's members, or its member's elements
 -- Examples   == the same relation by elements and by members, computed
--- Shifts     == shifts and the exchange of two rows, bit by bit
+-- Shifts     == the exchange of two rows, bit by bit
 -- Digits     == the digits of the numbers of rows and columns
 -- Exchanges  == pairs of rows and blocks of rows exchanged, one after the other
 -- Transposes == rows and columns exchanged, one digit after the other

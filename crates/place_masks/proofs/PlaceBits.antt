@@ -1,0 +1,142 @@
+-- The bits of a mask of places: cut off, moved, filled; its least and its greatest place. Assumes nothing.
+use mathlib.Core.Path.{_≡_, refl, sym, ap, ap₂, _∙_, subst}
+use mathlib.Core.Logic.{_⊎_, inl, inr, ⊎-elim}
+use mathlib.Core.Bool.{Bool, true, false, not, _&&_, _||_, and-true}
+use Prim.Native.Nat.{ℕ, zero, suc, _+_, _-_, _*_, _/_, _%_, _^_, _≤_, _<_}
+use native.Mathlib.Nat.{div-eq-of-lt, div-lt-iff-lt-mul, le-div-iff-mul-le, lt-of-lt-of-le, mod-eq-of-lt, one-mul, pow-suc}
+use native.Mathlib.Omega.{arith}
+use lib.Dec.{eqb, leb, ltb, lit<}
+use lib.Bits.{bitAnd, bitXor}
+use lib.Pow.{pow-pos, pow-mono, pow-lt, ones-split, ones-lt, high}
+use lib.Count.{leadingZeros, trailingZeros, leading-top}
+use borrow.Author.Tests.{le-leb, lt-leb, lt-ltb, le-ltb}
+use Rattle.masks.specs.Masks.{bit}
+use Rattle.facts.proofs.Cases.{below, clash, not-so, holds?}
+use Rattle.masks.proofs.Masks.{odd, bit-and, bit-xor, bit-past, bit-none, odd-digit, zero-digit}
+use Rattle.masks.proofs.Shifted.{bit-shr, bit-shl, bit-shl-low, bit-cut}
+use Rattle.place_masks.specs.Places.{Least, Greatest}
+
+-- a number below 2 ^ n has its bits below n
+pub bit-inside : (n x e : ℕ) → x < 2 ^ n → bit x e ≡ true → e < n
+unfolding bit
+bit-inside n x e l h = ⊎-elim
+    (λ (q : e < n). q)
+    (λ (q : n ≤ e). absurd (clash h (ap (λ (z : ℕ). eqb (z % 2) 1) (div-eq-of-lt (lt-of-lt-of-le l (pow-mono q))))))
+    (below e n)
+
+pub bit-outside : (n x e : ℕ) → x < 2 ^ n → n ≤ e → bit x e ≡ false
+bit-outside n x e l k = not-so (bit x e) (λ h. let z = bit-inside n x e l h in omega arith)
+
+-- a mask with a bit is not 0
+pub bit-pos : (x e : ℕ) → bit x e ≡ true → 0 < x
+bit-pos zero e h = absurd (clash h (bit-none e))
+bit-pos (suc x) e h = omega arith
+
+-- ---- cut off
+pub cut-all : (x p e : ℕ) → x < 2 ^ 64 → 63 ≤ p → bit x e ≡ (leb e p && bit x e)
+cut-all x p e l h = ⊎-elim
+    (λ (q : p < e). bit-outside 64 x e l (omega arith) ∙ sym (ap (λ t. t && bit x e) (lt-leb e p q)))
+    (λ (q : e ≤ p). sym (ap (λ t. t && bit x e) (le-leb e p q)))
+    (below p e)
+
+pub cut-to : (x p e : ℕ) → bit (x % 2 ^ suc p) e ≡ (leb e p && bit x e)
+cut-to x p e = ⊎-elim
+    (λ (q : p < e). bit-past (suc p) x e (omega arith) ∙ sym (ap (λ t. t && bit x e) (lt-leb e p q)))
+    (λ (q : e ≤ p). bit-cut (suc p) x e (omega arith) ∙ sym (ap (λ t. t && bit x e) (le-leb e p q)))
+    (below p e)
+
+pub cut-none : (x p e : ℕ) → x < 2 ^ 64 → 63 < p → bit 0 e ≡ (leb p e && bit x e)
+cut-none x p e l h = bit-none e ∙ sym (⊎-elim
+    (λ (q : e < p). ap (λ t. t && bit x e) (lt-leb p e q))
+    (λ (q : p ≤ e). ap₂ (λ t u. t && u) (le-leb p e q) (bit-outside 64 x e l (omega arith)))
+    (below e p))
+
+-- ---- moved
+pub moved-up : (n x s e : ℕ) → bit (x * 2 ^ s % 2 ^ n) e ≡ (ltb e n && (leb s e && bit x (e - s)))
+moved-up n x s e = ⊎-elim
+    (λ (k : e < n). bit-cut n (x * 2 ^ s) e k ∙ ⊎-elim
+    (λ (q : e < s).
+    let none : bit (x * 2 ^ s) e ≡ false = subst (λ (z : ℕ). bit (x * 2 ^ z) e ≡ false) (omega arith) (bit-shl-low x (s - suc e) e) in
+    none ∙ sym (ap₂ (λ t u. t && (u && bit x (e - s))) (lt-ltb e n k) (lt-leb s e q)))
+    (λ (q : s ≤ e).
+    let here : bit (x * 2 ^ s) e ≡ bit x (e - s) = subst (λ (z : ℕ). bit (x * 2 ^ s) z ≡ bit x (e - s)) (omega arith) (bit-shl x s (e - s)) in
+    here ∙ sym (ap₂ (λ t u. t && (u && bit x (e - s))) (lt-ltb e n k) (le-leb s e q)))
+    (below e s))
+    (λ (k : n ≤ e). bit-past n (x * 2 ^ s) e k ∙ sym (ap (λ t. t && (leb s e && bit x (e - s))) (le-ltb e n k)))
+    (below e n)
+
+pub cut-from : (n x p e : ℕ) → x < 2 ^ n → bit (x / 2 ^ p * 2 ^ p % 2 ^ n) e ≡ (leb p e && bit x e)
+cut-from n x p e l = moved-up n (x / 2 ^ p) p e ∙ ⊎-elim
+    (λ (k : e < n). ap (λ t. t && (leb p e && bit (x / 2 ^ p) (e - p))) (lt-ltb e n k) ∙ ⊎-elim
+    (λ (q : e < p). ap (λ t. t && bit (x / 2 ^ p) (e - p)) (lt-leb p e q) ∙ sym (ap (λ t. t && bit x e) (lt-leb p e q)))
+    (λ (q : p ≤ e). let back : e - p + p ≡ e = omega arith in
+    ap (λ t. leb p e && t) (bit-shr x p (e - p) ∙ ap (λ (z : ℕ). bit x z) back))
+    (below e p))
+    (λ (k : n ≤ e).
+    ap (λ t. t && (leb p e && bit (x / 2 ^ p) (e - p))) (le-ltb e n k)
+    ∙ sym (ap (λ t. leb p e && t) (bit-outside n x e l k) ∙ and-none (leb p e)))
+    (below e n)
+  where
+    and-none : (b : Bool) → (b && false) ≡ false
+    and-none true = refl
+    and-none false = refl
+
+-- ---- every place below n
+pub bit-ones : (n e : ℕ) → e < n → bit (2 ^ n - 1) e ≡ true
+unfolding bit
+bit-ones n e l = subst (λ (z : ℕ). eqb ((2 ^ z - 1) / 2 ^ e % 2) 1 ≡ true) (omega arith) (at (n - suc e))
+  where
+    at : (d : ℕ) → eqb ((2 ^ (suc d + e) - 1) / 2 ^ e % 2) 1 ≡ true
+    at d =
+        let split : (2 ^ (suc d + e) - 1) / 2 ^ e ≡ 2 ^ suc d - 1 = ap (λ (z : ℕ). z / 2 ^ e) (ones-split (suc d) e) ∙ high (2 ^ suc d - 1) e (ones-lt e) in
+        let twice = pow-suc 2 d in
+        let pos = pow-pos d in
+        let odd-one : (2 ^ suc d - 1) % 2 ≡ 1 = omega arith in
+        ap (λ (z : ℕ). eqb (z % 2) 1) split ∙ ap (λ (z : ℕ). eqb z 1) odd-one
+
+not-odd : (a b : Bool) → (a && odd b true) ≡ (a && not b)
+not-odd true true = refl
+not-odd true false = refl
+not-odd false true = refl
+not-odd false false = refl
+
+pub without-bits : (n a b e : ℕ) → a < 2 ^ n → bit (bitAnd a (bitXor (2 ^ n - 1) b)) e ≡ (bit a e && not (bit b e))
+without-bits n a b e l = bit-and a (bitXor (2 ^ n - 1) b) e ∙ ⊎-elim
+    (λ (k : e < n). ap (λ t. bit a e && t) (bit-xor (2 ^ n - 1) b e ∙ ap (λ t. odd (bit b e) t) (bit-ones n e k)) ∙ not-odd (bit a e) (bit b e))
+    (λ (k : n ≤ e). ap (λ t. t && bit (bitXor (2 ^ n - 1) b) e) (bit-outside n a e l k) ∙ sym (ap (λ t. t && not (bit b e)) (bit-outside n a e l k)))
+    (below e n)
+
+-- ---- the least and the greatest place
+pub least-place : (x : ℕ) → 0 < x → x < 2 ^ 64 → Least x (trailingZeros 64 x)
+unfolding bit
+least-place x h l =
+    let t = odd-digit 64 x h l in
+    record {
+      inside = ap (λ (z : ℕ). eqb z 1) (t .1);
+      least = λ j b. ⊎-elim
+          (λ (k : j < trailingZeros 64 x). absurd (clash b (ap (λ (z : ℕ). eqb z 1) (zero-digit 64 x j k))))
+          (λ (k : trailingZeros 64 x ≤ j). k)
+          (below j (trailingZeros 64 x));
+      low = t .0;
+    }
+
+top-digit : (x j : ℕ) → 2 ^ j ≤ x → x < 2 ^ suc j → bit x j ≡ true
+unfolding bit
+top-digit x j l h =
+    let one-le : 1 ≤ x / 2 ^ j = le-div-iff-mul-le (pow-pos j) .1 (subst (λ (z : ℕ). z ≤ x) (sym (one-mul (2 ^ j))) l) in
+    let lt-two : x / 2 ^ j < 2 = div-lt-iff-lt-mul (pow-pos j) .1 (let p = pow-suc 2 j in omega arith) in
+    let e : x / 2 ^ j % 2 ≡ 1 = omega arith in
+    ap (λ (z : ℕ). eqb z 1) e
+
+pub greatest-place : (x e : ℕ) → 0 < x → x < 2 ^ 64 → leadingZeros 64 x + suc e ≡ 64 → Greatest x e
+greatest-place x e h l q =
+    let t = leading-top 64 x h l in
+    let z : t .0 ≡ e = let s = t .1 in omega arith in
+    subst (λ (j : ℕ). Greatest x j) z (record {
+      inside = top-digit x (t .0) (t .2) (t .3);
+      greatest = λ j b. let k = bit-inside (suc (t .0)) x j (t .3) b in omega arith;
+      low = let s = t .1 in omega arith;
+    })
+
+pub leading-pos : (x : ℕ) → 0 < x → x < 2 ^ 64 → leadingZeros 64 x ≤ 63
+leading-pos x h l = let t = leading-top 64 x h l in let s = t .1 in omega arith
