@@ -1,0 +1,179 @@
+-- The places from which blocks go on, one block more at a time. Assumes nothing.
+use mathlib.Core.Path.{_≡_, refl, sym, ap, ap₂, _∙_, subst}
+use mathlib.Core.Logic.{_⊎_, inl, inr, ⊎-elim}
+use mathlib.Core.Bool.{Bool, true, false, _&&_}
+use mathlib.Core.List.{List, [], _∷_, _++_}
+use Prim.Native.Nat.{ℕ, zero, suc, _+_, _-_, _≤_, _<_}
+use native.Mathlib.Omega.{arith}
+use lib.Dec.{eqb}
+use lib.ListN.{length, getD, drop, replicate, length-replicate, getD-replicate}
+use borrow.Author.Tests.{eqb-true}
+use Rattle.masks.specs.Masks.{bit, Plus}
+use Rattle.masks.proofs.Masks.{bit-none}
+use Rattle.facts.specs.Counting.{between, cnt}
+use Rattle.facts.proofs.Cases.{same?, clash, not-so, holds?, and-left, and-right, hit, miss}
+use Rattle.facts.proofs.Counting.{cnt-place}
+use Rattle.facts.proofs.Spans.{between-in, between-from, between-to}
+use Rattle.place_masks.specs.Places.{Ahead, Before}
+use Rattle.blocks.specs.declared.Block.{Block}
+use Rattle.blocks.specs.Assignment.{takes, Assigns}
+use Rattle.blocks.specs.Numbers.{blockIn}
+use Rattle.blocks.specs.Pieces.{Takes, Cuts}
+use Rattle.blocks.proofs.Assignments.{takes-spare, takes-member, takes-inv, assigns-rows}
+use Rattle.blocks.proofs.Cutting.{cuts-order}
+use Rattle.blocks.proofs.LentBlocks.{lent, lent-none, lent-at}
+use Rattle.places.specs.Ways.{Way, Ways, Low, Leads, Back, isOne, Agrees}
+
+-- ---- the places are those of the list
+pub ways-low : {may : ℕ → ℕ → Bool} {bs : List Block} {n good : ℕ} → Ways may bs n good → Low good n
+ways-low {may} {bs} {n} {good} g e h = let w = g .some e h in cuts-order may bs e n (w .list) (w .cut)
+
+-- ---- no blocks: the end, and no other place
+pub ways-end : (may : ℕ → ℕ → Bool) (n : ℕ) {good : ℕ} → Plus (bit 0) n (bit good) → Ways may [] n good
+unfolding Cuts
+ways-end may n {good} one = record {
+  some = λ p h. ⊎-elim
+      (λ (q : p ≡ n). record { list = []; cut = (q, refl) })
+      (λ (q : p ≡ n → ⊥). absurd (clash h (one .other p q ∙ bit-none p)))
+      (same? p n);
+  all = λ p w. subst (λ (z : ℕ). bit good z ≡ true) (sym (w .cut .0)) (one .self);
+}
+
+-- ---- one block more in front
+pub ways-back : {may : ℕ → ℕ → Bool} {b : Block} {bs : List Block} {n good r : ℕ} → Back may b good r → Ways may bs n good → Ways may (b ∷ bs) n r
+unfolding Cuts
+ways-back {may} {b} {bs} {n} {good} {r} f g = record {
+  some = λ p h.
+      let l = f .some p h in
+      let w = g .some (l .place) (l .here) in
+      record {
+        list = l .piece ++ w .list;
+        cut = record {
+          mid = l .place;
+          after = l .after;
+          inside = ways-low g (l .place) (l .here);
+          parts = record { left = l .piece; right = w .list; whole = refl; onLeft = l .taken; onRight = w .cut };
+        };
+      };
+  all = λ p w.
+      let c = w .cut in
+      let j = c .parts in
+      f .all p (record { place = c .mid; here = g .all (c .mid) (record { list = j .right; cut = j .onRight }); after = c .after; piece = j .left; taken = j .onLeft });
+}
+
+-- ---- two relations that agree on the block's members
+agrees-turn : {may may' : ℕ → ℕ → Bool} {b : Block} {n : ℕ} → Agrees may may' b n → Agrees may' may b n
+agrees-turn a = record { same = λ m e b l. sym (a .same m e b l) }
+
+pub takes-agree : {may may' : ℕ → ℕ → Bool} {b : Block} {n from to : ℕ} {p : List ℕ} → Agrees may may' b n → to ≤ n → Takes may b from to p → Takes may' b from to p
+takes-agree {may} {may'} {b} {n} {from} {to} {p} a l t = record {
+  assigned = assigns-rows (λ m e i j o. let z = between-to from to e j in sym (a .same m e i (omega arith)) ∙ o) (t .assigned);
+  enough = t .enough;
+  few = t .few;
+}
+
+pub leads-agree : {may may' : ℕ → ℕ → Bool} {b : Block} {n good p : ℕ} → Agrees may may' b n → Low good n → Leads may b good p → Leads may' b good p
+leads-agree a low l = record { place = l .place; here = l .here; after = l .after; piece = l .piece; taken = takes-agree a (low (l .place) (l .here)) (l .taken) }
+
+pub back-agree : {may may' : ℕ → ℕ → Bool} {b : Block} {n good r : ℕ} → Agrees may may' b n → Low good n → Back may b good r → Back may' b good r
+back-agree a low f = record { some = λ p h. leads-agree a low (f .some p h); all = λ p l. f .all p (leads-agree (agrees-turn a) low l) }
+
+-- ---- a block with no members
+pub spares-taken : (may : ℕ → ℕ → Bool) (b : Block) (from to : ℕ) → b .k ≡ 0 → from ≤ to → from + b .min ≤ to → to ≤ from + b .max → Takes may b from to (replicate (to - from) 255)
+spares-taken may b from to z o enough few =
+    let n = length-replicate {A = ℕ} (to - from) 255 in
+    record {
+      assigned = record {
+        size = n;
+        right = λ i l. takes-spare may (b .first) (b .k) (from + i) (getD (replicate (to - from) 255) i 0) (getD-replicate {A = ℕ} (to - from) i 255 0 (omega arith));
+        once = λ m f t. absurd (omega arith);
+      };
+      enough = omega arith;
+      few = omega arith;
+    }
+
+pub back-spares : (may : ℕ → ℕ → Bool) (b : Block) {good r : ℕ} → b .k ≡ 0 → Before good (b .min) (b .max) r → Back may b good r
+back-spares may b {good} {r} z f = record {
+  some = λ p h.
+      let a = f .some p h in
+      let n = a .near in
+      let x = a .far in
+      record { place = a .place; here = a .here; after = omega arith; piece = replicate (a .place - p) 255; taken = spares-taken may b p (a .place) z (omega arith) n x };
+  all = λ p l.
+      let o = l .after in
+      let t = l .taken in
+      let e = t .enough in
+      let x = t .few in
+      f .all p (record { place = l .place; here = l .here; near = omega arith; far = omega arith });
+}
+
+-- ---- one member and no spare element
+pub one-parts : (b : Block) → isOne b ≡ true → (b .k ≡ 1) × (b .min ≡ 0) × (b .max ≡ 0)
+unfolding isOne
+one-parts b h =
+    let r = and-right (eqb (b .k) 1) (eqb (b .min) 0 && eqb (b .max) 0) h in
+    (eqb-true (b .k) 1 (and-left (eqb (b .k) 1) (eqb (b .min) 0 && eqb (b .max) 0) h), eqb-true (b .min) 0 (and-left (eqb (b .min) 0) (eqb (b .max) 0) r), eqb-true (b .max) 0 (and-right (eqb (b .min) 0) (eqb (b .max) 0) r))
+
+pub one-taken : (may : ℕ → ℕ → Bool) (b : Block) (p : ℕ) → isOne b ≡ true → may (b .first) p ≡ true → Takes may b p (p + 1) (b .first ∷ [])
+unfolding cnt
+one-taken may b p h o =
+    let q = one-parts b h in
+    let k = q .0 in
+    record {
+      assigned = record {
+        size = omega arith;
+        right = at;
+        once = λ v f t. let e : b .first ≡ v = omega arith in let z = hit (b .first) v e in omega arith;
+      };
+      enough = let m = q .1 in omega arith;
+      few = omega arith;
+    }
+  where
+    at : (i : ℕ) → i < length (b .first ∷ []) → takes may (b .first) (b .k) (p + i) (getD (b .first ∷ []) i 0) ≡ true
+    at zero l = let k = one-parts b h .0 in takes-member may (b .first) (b .k) (p + 0) (b .first) (between-in (b .first) (b .first + b .k) (b .first) (omega arith) (omega arith))
+        (subst (λ (j : ℕ). may (b .first) j ≡ true) (let z : p ≡ p + 0 = omega arith in z) o)
+    at (suc i) l = absurd (omega arith)
+
+pub taken-one : {may : ℕ → ℕ → Bool} {b : Block} {p q : ℕ} (v : List ℕ) → isOne b ≡ true → b .first < 32 → p ≤ q → Takes may b p q v → (q ≡ p + 1) × (v ≡ b .first ∷ []) × (may (b .first) p ≡ true)
+unfolding cnt
+taken-one {may} {b} {p} {q} [] h l o t = let k = one-parts b h .0 in let n = t .assigned .size in let e = t .enough in absurd (omega arith)
+taken-one {may} {b} {p} {q} (x ∷ []) h l o t =
+    let z = one-parts b h in
+    let k = z .0 in
+    let top = z .2 in
+    let n = t .assigned .size in
+    let e = t .enough in
+    let f = t .few in
+    let c = t .assigned .once (b .first) (omega arith) (omega arith) in
+    let is : x ≡ b .first = ⊎-elim (λ (y : x ≡ b .first). y) (λ (y : x ≡ b .first → ⊥). let m = miss x (b .first) y in absurd (omega arith)) (same? x (b .first)) in
+    let r = t .assigned .right 0 (omega arith) in (
+      omega arith,
+      ap (λ (y : ℕ). y ∷ []) is,
+      ⊎-elim
+          (λ (y : x ≡ 255). absurd (omega arith))
+          (λ (y : (between (b .first) (b .first + b .k) x ≡ true) × (may x (p + 0) ≡ true)).
+          subst (λ (m : ℕ). may m p ≡ true) is (subst (λ (j : ℕ). may x j ≡ true) (let w : p + 0 ≡ p = omega arith in w) (y .1)))
+          (takes-inv may (b .first) (b .k) (p + 0) x r),
+    )
+taken-one {may} {b} {p} {q} (x ∷ y ∷ v) h l o t = let z = one-parts b h in let k = z .0 in let top = z .2 in let n = t .assigned .size in let f = t .few in absurd (omega arith)
+
+-- the member may take the element at each place before a good one, where r says so
+pub record Tested (may : ℕ → ℕ → Bool) (b : Block) (good r : ℕ) : Type 0 where
+  pub some : (p : ℕ) → bit r p ≡ true → (bit good (p + 1) ≡ true) × (may (b .first) p ≡ true)
+  pub all : (p : ℕ) → bit good (p + 1) ≡ true → may (b .first) p ≡ true → bit r p ≡ true
+
+pub back-one : {may : ℕ → ℕ → Bool} {b : Block} {good r : ℕ} → isOne b ≡ true → b .first < 32 → Tested may b good r → Back may b good r
+back-one {may} {b} {good} {r} h l f = record {
+  some = λ p x. let t = f .some p x in record { place = p + 1; here = t .0; after = omega arith; piece = b .first ∷ []; taken = one-taken may b p h (t .1) };
+  all = λ p x. let t = taken-one (x .piece) h l (x .after) (x .taken) in f .all p (subst (λ (z : ℕ). bit good z ≡ true) (t .0) (x .here)) (t .2);
+}
+
+-- ---- blocks that are read of lent numbers
+pub lent-end : (may : ℕ → ℕ → Bool) (count : ℕ) (vs : List ℕ) (n : ℕ) {good : ℕ} → Plus (bit 0) n (bit good) → Ways may (drop count (lent count vs)) n good
+lent-end may count vs n {good} one = subst (λ (bs : List Block). Ways may bs n good) (sym (lent-none count vs)) (ways-end may n one)
+
+pub lent-back : {may : ℕ → ℕ → Bool} (count : ℕ) (vs : List ℕ) (j i : ℕ) {n good r : ℕ} {b : Block} → b ≡ blockIn (getD vs i 0) → j ≡ suc i → j ≤ count
+    → Back may b good r → Ways may (drop j (lent count vs)) n good → Ways may (drop i (lent count vs)) n r
+lent-back {may} count vs j i {n} {good} {r} {b} is q l f g =
+    let e : drop i (lent count vs) ≡ b ∷ drop j (lent count vs) = lent-at count vs i (omega arith) ∙ rw (is, q) in
+    subst (λ (bs : List Block). Ways may bs n r) (sym e) (ways-back f g)

@@ -1,0 +1,12 @@
+-- `is_one` meets its contract. Assumes nothing.
+use mathlib.Core.Path.{refl}
+use Rattle.places.specs.Ways.{isOne}
+use Rattle.places.proofs.is_one.Statement.{statement}
+use Rattle.places.proofs.is_one.Tie as tie
+
+returns : tie.Need-returns
+unfolding isOne
+returns c = refl
+
+pub is-one-spec : {M : Type 1} → statement M
+is-one-spec = tie.close (tie.spec returns)
