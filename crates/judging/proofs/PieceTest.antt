@@ -1,7 +1,8 @@
 -- What stands in a piece of an offered list, byte by byte. Assumes nothing.
 use mathlib.Core.Path.{_≡_, refl, sym, ap, _∙_, subst}
 use mathlib.Core.Logic.{⊎-elim}
-use mathlib.Core.Bool.{Bool, true, false}
+use mathlib.Core.Bool.{Bool, true, false, not}
+use borrow.Author.Tests.{not-true, not-false}
 use mathlib.Core.List.{List}
 use Prim.Native.Nat.{ℕ, _+_, _-_, _≤_, _<_}
 use native.Mathlib.Omega.{arith}
@@ -18,7 +19,7 @@ use Rattle.blocks.proofs.Assignments.{takes-inv, takes-spare, takes-member}
 use Rattle.facts.proofs.Slices.{slice-at, slice-split, cnt-more}
 use Rattle.blocks.specs.declared.Block.{Block}
 use Rattle.blocks.specs.Pieces.{Takes, Passing}
-use Rattle.judging.specs.Reach.{Fresh, Good, Group, Whole}
+use Rattle.judging.specs.Reach.{anyPair, Fresh, Good, Group, Whole}
 use Rattle.blocks.proofs.FirstLists.{passing-false}
 
 -- ---- one byte
@@ -29,14 +30,16 @@ module _ {may : ℕ → ℕ → Bool} {b : Block} {members e x : ℕ} where
   pub fresh-high : b .first + b .k ≤ x → Passing (Fresh may b members e x) false
   fresh-high l = passing-false (λ f. let y = between-to (b .first) (b .first + b .k) x (f .inside) in omega arith)
 
-  pub fresh-old : bit members x ≡ true → Passing (Fresh may b members e x) false
-  fresh-old h = passing-false (λ f. clash h (f .new))
-
-  pub fresh-may : {r : Bool} → b .first ≤ x → x < b .first + b .k → bit members x ≡ false → r ≡ may x e → Passing (Fresh may b members e x) r
-  fresh-may f t n q = record {
-    passed = λ h. record { inside = between-in (b .first) (b .first + b .k) x f t; right = sym q ∙ h; new = n };
-    failed = λ h y. clash (y .right) (sym q ∙ h);
+-- where any member may take any element
+module _ {b : Block} {members e x : ℕ} where
+  pub fresh-any : {old : Bool} → b .first ≤ x → x < b .first + b .k → old ≡ bit members x → Passing (Fresh anyPair b members e x) (not old)
+  fresh-any {old} f t q = record {
+    passed = λ h. record { inside = between-in (b .first) (b .first + b .k) x f t; right = refl; new = sym q ∙ not-true old h };
+    failed = λ h y. clash (q-is h) (y .new);
   }
+    where
+      q-is : not old ≡ false → bit members x ≡ true
+      q-is h = sym q ∙ not-false old h
 
 -- ---- the piece so far
 pub good-start : (may : ℕ → ℕ → Bool) (b : Block) (from : ℕ) (w : List ℕ) → Good may b from from w 0

@@ -1,7 +1,7 @@
 -- The places that the blocks so far reach, one block more at a time. Assumes nothing.
 use mathlib.Core.Path.{_≡_, refl, sym, ap, _∙_, subst}
 use mathlib.Core.Logic.{⊎-elim}
-use mathlib.Core.Bool.{Bool, true, false}
+use mathlib.Core.Bool.{Bool, true, false, not, _&&_}
 use mathlib.Core.List.{List, [], _∷_, _++_}
 use Prim.Native.Nat.{ℕ, _+_, _≤_, _<_}
 use native.Mathlib.Numerals.{add-one}
@@ -9,12 +9,14 @@ use native.Mathlib.Omega.{arith}
 use lib.ListN.{length, getD, take, drop, take-append-drop}
 use lib.Seq.{slice, take-take, take-at, drop-at, take-length}
 use Rattle.masks.specs.Masks.{bit, Plus}
-use Rattle.facts.proofs.Cases.{same?, holds?, clash}
+use Rattle.facts.specs.Counting.{count}
+use Rattle.facts.proofs.Cases.{same?, below, holds?, clash, and-left}
+use Rattle.facts.proofs.Counting.{count-less}
 use Rattle.masks.proofs.Masks.{bit-none}
 use Rattle.blocks.specs.declared.Block.{Block}
 use Rattle.blocks.specs.Numbers.{blockIn, blocksIn}
 use Rattle.blocks.specs.Pieces.{Takes, Cuts, Passing}
-use Rattle.judging.specs.Reach.{Reached, Ends}
+use Rattle.judging.specs.Reach.{Reached, Ends, Begun, Extended}
 use Rattle.blocks.proofs.FirstLists.{passing-true, passing-false, passing-same}
 use Rattle.blocks.proofs.Cutting.{cuts-length, cuts-snoc, Ended, cuts-unsnoc}
 use Rattle.blocks.proofs.LentBlocks.{lent, lent-more, cuts-lent, lent-cuts}
@@ -47,60 +49,54 @@ left-part to mid w u v l q n = sym (take-at u v mid n) ∙ ap (λ (x : List ℕ)
 right-part : (to mid : ℕ) (w u v : List ℕ) → take to w ≡ u ++ v → length u ≡ mid → v ≡ slice mid to w
 right-part to mid w u v q n = sym (drop-at u v mid n) ∙ ap (λ (x : List ℕ). drop mid x) (sym q)
 
--- ---- all walks that begin before `from`
-pub record Begun (may : ℕ → ℕ → Bool) (b : Block) (reach : ℕ) (w : List ℕ) (from p : ℕ) : Type 0 where
-  pub start : ℕ
-  pub early : start < from
-  pub reached : bit reach start ≡ true
-  pub inside : start ≤ p
-  pub end : p ≤ length w
-  pub taken : Takes may b start p (slice start p w)
+-- ---- all walks that begin at a reached place which is not left
 
-pub record Extended (may : ℕ → ℕ → Bool) (b : Block) (reach : ℕ) (w : List ℕ) (from next : ℕ) : Type 0 where
-  pub found : (p : ℕ) → Begun may b reach w from p → bit next p ≡ true
-  pub only : (p : ℕ) → bit next p ≡ true → Begun may b reach w from p
+pub record Extending (may : ℕ → ℕ → Bool) (b : Block) (reach : ℕ) (w : List ℕ) (left next : ℕ) : Type 0 where
+  pub fewer : (p : ℕ) → bit left p ≡ true → bit reach p ≡ true
+  pub found : (p : ℕ) (h : Begun may b reach w p) → bit left (h .start) ≡ false → bit next p ≡ true
+  pub only : (p : ℕ) → bit next p ≡ true → Begun may b reach w p
 
-pub extended-start : (may : ℕ → ℕ → Bool) (b : Block) (reach : ℕ) (w : List ℕ) → Extended may b reach w 0 0
-extended-start may b reach w = record { found = λ p h. let l = h .early in absurd (omega arith); only = λ p h. absurd (clash h (bit-none p)) }
+pub extending-start : (may : ℕ → ℕ → Bool) (b : Block) (reach : ℕ) (w : List ℕ) → Extending may b reach w reach 0
+extending-start may b reach w = record { fewer = λ p h. h; found = λ p h n. absurd (clash (h .reached) n); only = λ p h. absurd (clash h (bit-none p)) }
 
-begun-later : {may : ℕ → ℕ → Bool} {b : Block} {reach : ℕ} {w : List ℕ} {from p : ℕ} → Begun may b reach w from p → Begun may b reach w (from + 1) p
-begun-later h = let l = h .early in record { start = h .start; early = omega arith; reached = h .reached; inside = h .inside; end = h .end; taken = h .taken }
+module _ {may : ℕ → ℕ → Bool} {b : Block} {reach : ℕ} {w : List ℕ} {left next : ℕ} (g : Extending may b reach w left next) (from one after : ℕ) (here : bit left from ≡ true) (single : Plus (bit 0) from (bit one))
+    (out : (e : ℕ) → bit after e ≡ (bit left e && not (bit one e))) where
+  gone : (p : ℕ) → bit after p ≡ true → bit left p ≡ true
+  gone p h = and-left (bit left p) (not (bit one p)) (sym (out p) ∙ h)
 
--- a piece that begins before from + 1 begins at `from`, or before
-begun-split : {may : ℕ → ℕ → Bool} {b : Block} {reach : ℕ} {w : List ℕ} {from p : ℕ} {A : Type 0} → Begun may b reach w (from + 1) p
-    → (bit reach from ≡ true → from ≤ p → p ≤ length w → Takes may b from p (slice from p w) → A) → (Begun may b reach w from p → A) → A
-begun-split {may} {b} {reach} {w} {from} {p} {A} h here earlier =
-    let l = h .early in
-    ⊎-elim
-    (λ (q : h .start ≡ from). here
-    (subst (λ (x : ℕ). bit reach x ≡ true) q (h .reached))
-    (subst (λ (x : ℕ). x ≤ p) q (h .inside))
-    (h .end)
-    (subst (λ (x : ℕ). Takes may b x p (slice x p w)) q (h .taken)))
-    (λ (q : h .start ≡ from → ⊥). earlier (record { start = h .start; early = omega arith; reached = h .reached; inside = h .inside; end = h .end; taken = h .taken }))
-    (same? (h .start) from)
+  stays : (p : ℕ) → (p ≡ from → ⊥) → bit after p ≡ bit left p
+  stays p n = out p ∙ ap (λ (v : Bool). bit left p && not v) (single .other p n ∙ bit-none p) ∙ and-true (bit left p)
+    where
+      and-true : (a : Bool) → (a && true) ≡ a
+      and-true true = refl
+      and-true false = refl
 
-module _ {may : ℕ → ℕ → Bool} {b : Block} {reach : ℕ} {w : List ℕ} {from next : ℕ} (g : Extended may b reach w from next) where
-  pub extended-skip : bit reach from ≡ false → Extended may b reach w (from + 1) next
-  extended-skip n = record {
-    found = λ p h. begun-split h (λ r l k t. absurd (clash r n)) (λ y. g .found p y);
-    only = λ p h. begun-later (g .only p h);
-  }
-
-  pub extended-step : {more : ℕ} → bit reach from ≡ true → Ends may b from (length w + 1) w next more → Extended may b reach w (from + 1) more
-  extended-step {more} r e = record {
-    found = λ p h. begun-split h (λ s l k t. e .found p l (omega arith) t) (λ y. e .kept p (g .found p y));
+  pub extending-step : {more : ℕ} → Ends may b from (length w + 1) w next more → Extending may b reach w after more
+  extending-step {more} e = record {
+    fewer = λ p h. g .fewer p (gone p h);
+    found = λ p h n. ⊎-elim
+        (λ (q : h .start ≡ from).
+        e .found p (subst (λ (x : ℕ). x ≤ p) q (h .inside)) (let k = h .end in omega arith) (subst (λ (x : ℕ). Takes may b x p (slice x p w)) q (h .taken)))
+        (λ (q : h .start ≡ from → ⊥). e .kept p (g .found p h (sym (stays (h .start) q) ∙ n)))
+        (same? (h .start) from);
     only = λ p h. ⊎-elim
-        (λ (o : bit next p ≡ true). begun-later (g .only p o))
+        (λ (o : bit next p ≡ true). g .only p o)
         (λ (o : bit next p ≡ false).
         let y = e .only p h o in
-        record { start = from; early = omega arith; reached = r; inside = y .0; end = omega arith; taken = y .2 })
+        record { start = from; reached = g .fewer from here; inside = y .0; end = omega arith; taken = y .2 })
         (holds? (bit next p));
   }
 
+  -- one place fewer is left
+  pub left-fewer : from < 64 → count (bit after) 64 < count (bit left) 64
+  left-fewer low = count-less {P = bit after} {S = bit left} gone from (out from ∙ rw (here, single .self) refl) here 64 low
+
+pub extending-end : {may : ℕ → ℕ → Bool} {b : Block} {reach : ℕ} {w : List ℕ} {left next : ℕ} → left ≡ 0 → Extending may b reach w left next → Extended may b reach w next
+extending-end {may} {b} {reach} {w} {left} {next} z g = record { found = λ p h. g .found p h (ap (λ (n : ℕ). bit n (h .start)) z ∙ bit-none (h .start)); only = g .only }
+
 module _ {may : ℕ → ℕ → Bool} {bs : List Block} {b : Block} {reach : ℕ} {w : List ℕ} (g : Reached may bs w reach) where
-  begun-cuts : {from p : ℕ} → Begun may b reach w from p → Cuts may (bs ++ (b ∷ [])) 0 p (take p w)
-  begun-cuts {from} {p} h =
+  begun-cuts : {p : ℕ} → Begun may b reach w p → Cuts may (bs ++ (b ∷ [])) 0 p (take p w)
+  begun-cuts {p} h =
       let i = h .start in
       let l = h .inside in
       let k = h .end in
@@ -109,7 +105,7 @@ module _ {may : ℕ → ℕ → Bool} {bs : List Block} {b : Block} {reach : ℕ
       (cuts-snoc may bs b 0 i p (take i w) (slice i p w) (g .at i (omega arith) .passed (h .reached)) l (h .taken))
 
   -- a cut that ends in a piece of b begins that piece at a place that is reached
-  cuts-begun : {p : ℕ} → p ≤ length w → Ended may bs b 0 p (take p w) → Begun may b reach w (length w + 1) p
+  cuts-begun : {p : ℕ} → p ≤ length w → Ended may bs b 0 p (take p w) → Begun may b reach w p
   cuts-begun {p} end e =
       let j = e .parts in
       let m = e .mid in
@@ -118,14 +114,13 @@ module _ {may : ℕ → ℕ → Bool} {bs : List Block} {b : Block} {reach : ℕ
       let c : Cuts may bs 0 m (take m w) = subst (λ (x : List ℕ). Cuts may bs 0 m x) (left-part p m w (j .left) (j .right) k (j .whole) n) (j .onLeft) in
       record {
         start = m;
-        early = omega arith;
         reached = ⊎-elim (λ (y : bit reach m ≡ true). y) (λ (y : bit reach m ≡ false). absurd (g .at m (omega arith) .failed y c)) (holds? (bit reach m));
         inside = k;
         end = end;
         taken = subst (λ (x : List ℕ). Takes may b m p x) (right-part p m w (j .left) (j .right) (j .whole) n) (j .onRight);
       }
 
-  pub extended-end : {next : ℕ} → Extended may b reach w (length w + 1) next → Reached may (bs ++ (b ∷ [])) w next
+  pub extended-end : {next : ℕ} → Extended may b reach w next → Reached may (bs ++ (b ∷ [])) w next
   extended-end {next} e = record {
     at = λ p l. record {
       passed = λ h. begun-cuts (e .only p h);
@@ -135,6 +130,9 @@ module _ {may : ℕ → ℕ → Bool} {bs : List Block} {b : Block} {reach : ℕ
   }
 
 -- ---- all blocks
+pub reached-low : {may : ℕ → ℕ → Bool} {bs : List Block} {w : List ℕ} {reach : ℕ} → Reached may bs w reach → (p : ℕ) → bit reach p ≡ true → p ≤ length w
+reached-low {may} {bs} {w} {reach} g p h = ⊎-elim (λ (l : p < length w + 1). omega arith) (λ (l : length w + 1 ≤ p). absurd (clash h (g .outside p (omega arith)))) (below p (length w + 1))
+
 pub reached-more : {may : ℕ → ℕ → Bool} (vs : List ℕ) {w : List ℕ} {reach : ℕ} (j : ℕ) {b : Block} → b ≡ blockIn (getD vs j 0)
     → Reached may (lent j vs ++ (b ∷ [])) w reach → Reached may (lent (j + 1) vs) w reach
 reached-more {may} vs {w} {reach} j {b} is g =

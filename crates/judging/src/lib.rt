@@ -1,53 +1,65 @@
-// Tests of offered lists: is this a cut, is this a filling. They share the definitions of `blocks` and the rows with the search, and nothing else.
+// Tests of offered lists: is this a cut. They share the definitions of `blocks` with the search, and nothing else. Which member may take which
+// element is not asked here: only the pairs that a list gives are tested, and elsewhere.
+ghost use mathlib.Core.Path.{_≡_};
 ghost use Prim.Native.Nat.{_≤_};
+ghost use lib.Dec.{eqb};
 ghost use lib.ListN.{take, length};
-ghost use Rattle.rows.specs.Rows.{may};
+ghost use Rattle.facts.specs.Counting.{cnt};
 ghost use Rattle.blocks.specs.Numbers.{blocksIn};
-ghost use Rattle.blocks.specs.Pieces.{Inside, Cuts, Fills, Passing};
-use blocks::Block;
+ghost use Rattle.blocks.specs.Pieces.{Inside, Cuts, Passing};
+ghost use Rattle.judging.specs.Reach.{anyPair, SparesOf};
 use blocks::block_at;
+use format::SPARE;
 use masks::has_place;
-use masks::with;
-use reach::fresh;
+use masks::with_place;
 
 mod reach; // the places of an offered list that the blocks so far reach
 
-// Whether w is a cut by the first `count` blocks of as many elements as it has bytes.
-pub fn cut_passes(rows: &[u32; 32], blocks: &[u32; 32], count: usize, w: &[u8]) -> bool
-    requires { ⌜ (count ≤ 32) × (length (now w) ≤ 32) × Inside (blocksIn (take count (now blocks))) ⌝ }
-    ensures { λ r. ⌜ Passing (Cuts (may (now (rows .entry))) (blocksIn (take count (now (blocks .entry)))) 0 (length (now (w .entry))) (now (w .entry))) r ⌝ }
+// The elements that w leaves spare.
+fn spares_of(w: &[u8]) -> u64
+    requires { ⌜ length (now w) ≤ 32 ⌝ }
+    ensures { λ r. ⌜ SparesOf (now (w .entry)) (length (now (w .entry))) r ⌝ }
 {
+    let mut spares: u64 = 0;
+    let mut e: usize = 0;
+    while e < w.len() {
+        let x = w[e];
+        if x == SPARE {
+            spares = with_place(spares, e);
+        }
+        e += 1;
+    }
+    spares
+}
+
+// Whether w leaves no element spare.
+pub fn none_spare(w: &[u8]) -> bool
+    ensures { λ r. ⌜ r ≡ eqb (cnt 255 (now (w .entry))) 0 ⌝ }
+{
+    let mut e: usize = 0;
+    while e < w.len() {
+        let x = w[e];
+        if x == SPARE {
+            return false;
+        }
+        e += 1;
+    }
+    true
+}
+
+// Whether w is a cut by the first `count` blocks of as many elements as it has bytes, where any member may take any element.
+pub fn cut_passes(blocks: &[u32; 32], count: usize, w: &[u8]) -> bool
+    requires { ⌜ (count ≤ 32) × (length (now w) ≤ 32) × Inside (blocksIn (take count (now blocks))) ⌝ }
+    ensures { λ r. ⌜ Passing (Cuts anyPair (blocksIn (take count (now (blocks .entry)))) 0 (length (now (w .entry))) (now (w .entry))) r ⌝ }
+{
+    let spares = spares_of(w);
     let mut reach = reach::start();
     let mut j = 0;
     while j < count {
         let b = block_at(blocks, j);
-        let next = reach::extend(rows, b, reach, w);
+        let next = reach::extend(b, reach, spares, w);
         reach = next;
         j += 1;
     }
     has_place(reach, w.len())
-}
-
-// Whether w gives each of as many elements as it has bytes a member below k that may take it, and no member twice.
-pub fn filling_passes(rows: &[u32; 32], k: u8, w: &[u8]) -> bool
-    requires { ⌜ (k ≤ 32) × (length (now w) ≤ 32) ⌝ }
-    ensures { λ r. ⌜ Passing (Fills (may (now (rows .entry))) k (length (now (w .entry))) (now (w .entry))) r ⌝ }
-{
-    let b = Block {
-        first: 0,
-        k: k,
-        min: 0,
-        max: 0,
-    };
-    let mut members: u32 = 0;
-    let mut e = 0;
-    while e < w.len() {
-        let x = w[e];
-        if !fresh(rows, b, members, e, x) {
-            return false;
-        }
-        members = with(members, x);
-        e += 1;
-    }
-    true
 }

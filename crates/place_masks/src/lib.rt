@@ -77,7 +77,7 @@ fn moved_down(places: u64, s: usize) -> u64
 }
 
 // Each place s elements further on; those from 64 on fall away.
-fn moved_up(places: u64, s: usize) -> u64
+pub fn moved_up(places: u64, s: usize) -> u64
     requires { ⌜ s < 64 ⌝ }
     ensures { λ r. ⌜ ((e : ℕ) → bit r e ≡ (ltb e 64 && (leb s e && bit places (e - s)))) ⌝ }
 {

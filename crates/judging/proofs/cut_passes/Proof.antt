@@ -4,10 +4,9 @@ use mathlib.Core.Path.{_≡_}
 use Prim.Native.Nat.{_-_, _≤_}
 use native.Mathlib.Omega.{arith}
 use borrow.Author.Needs.{needs}
-use Rattle.rows.specs.Rows.{may}
-use Rattle.judging.specs.Reach.{Reached}
+use Rattle.judging.specs.Reach.{anyPair, Reached}
 use Rattle.blocks.proofs.LentBlocks.{lent, lent-inside}
-use Rattle.judging.proofs.ReachedPlaces.{reached-more, reached-all}
+use Rattle.judging.proofs.ReachedPlaces.{reached-low, reached-more, reached-all}
 use Rattle.judging.proofs.cut_passes.Statement.{statement}
 use Rattle.judging.proofs.cut_passes.Tie as tie
 use Rattle.judging.proofs.cut_passes.Reads as reads
@@ -18,10 +17,13 @@ use Rattle.judging.proofs.reach.start.Reads as start-reads
 use Rattle.masks.proofs.has_place.Reads as has-place-reads
 
 abbrev Inv-loop : tie.InvT-loop
-Inv-loop rows blocks count w reach₀ j₀ reach j = (j ≤ count) × Reached (may rows) (lent j blocks) w reach
+Inv-loop blocks count w spares reach₀ j₀ reach j = (j ≤ count) × Reached anyPair (lent j blocks) w reach
 
 abbrev μ-loop : tie.MeasureT-loop
-μ-loop rows blocks count w reach₀ j₀ reach j = count - j
+μ-loop blocks count w spares reach₀ j₀ reach j = count - j
+
+spares-of-requires : tie.Need-spares-of-requires Inv-loop μ-loop
+spares-of-requires c κs = search needs
 
 start-requires : tie.Need-start-requires Inv-loop μ-loop
 start-requires c κs = search needs
@@ -35,9 +37,10 @@ block-at-requires c κs = omega arith
 
 extend-requires : tie.Need-extend-requires Inv-loop μ-loop
 extend-requires c κs =
-    let start = c .before .before .before .before .before in
+    let start = c .before .before .before .before .before .before in
     let p = start .pre in
-    (lent-inside (start .args .count) (start .args .blocks .now) (c .before .before .loop .j) (c .block-at .ensures) (c .before .loop-test .taken) (p .2), p .1)
+    let l = c .before .before .loop in
+    (lent-inside (start .args .count) (start .args .blocks .now) (l .j) (c .block-at .ensures) (c .before .loop-test .taken) (p .2), p .1, c .before .before .before .before .spares-of .ensures, reached-low (l .inv .1))
 
 add-j : tie.Need-add-j Inv-loop μ-loop
 add-j c = omega arith
@@ -48,7 +51,7 @@ loop-less c = omega arith
 loop-again : tie.Need-loop-again Inv-loop μ-loop
 loop-again c =
     let l = c .before .before .before .loop in
-    (omega arith, reached-more (c .before .before .before .before .before .before .args .blocks .now) (l .j) (c .before .block-at .ensures) (c .extend .ensures _ (l .inv .1)))
+    (omega arith, reached-more (c .before .before .before .before .before .before .before .args .blocks .now) (l .j) (c .before .block-at .ensures) (c .extend .ensures _ (l .inv .1)))
 
 has-place-requires : tie.Need-has-place-requires Inv-loop μ-loop
 has-place-requires c κs = omega arith
@@ -56,7 +59,7 @@ has-place-requires c κs = omega arith
 returns : tie.Need-returns Inv-loop μ-loop
 returns c =
     let l = c .before .before .loop in
-    let a = c .before .before .before .before .before .args in
+    let a = c .before .before .before .before .before .before .args in
     let q : l .j ≡ a .count = omega arith in
     reached-all (a .count) (a .blocks .now) (rw q at (l .inv .1)) (c .has-place .ensures)
 
@@ -66,6 +69,7 @@ cut-passes-spec =
     (tie.spec
     Inv-loop
     μ-loop
+    spares-of-requires
     start-requires
     loop-holds
     block-at-requires

@@ -6,8 +6,7 @@ use Prim.Native.Nat.{ℕ, _+_, _-_, _≤_, _<_, min}
 use native.Mathlib.Omega.{arith}
 use lib.ListN.{length}
 use borrow.Author.Tests.{not-true, not-false}
-use Rattle.rows.specs.Rows.{may}
-use Rattle.judging.specs.Reach.{Good, Ends}
+use Rattle.judging.specs.Reach.{anyPair, Good, Ends}
 use Rattle.judging.proofs.PieceTest.{good-start, good-spare, good-member, fresh-below}
 use Rattle.judging.proofs.PieceEnds.{ends-start, ends-mark, ends-stop, ends-last}
 use Rattle.judging.proofs.reach.piece_ends.Statement.{statement}
@@ -20,11 +19,11 @@ use Rattle.judging.proofs.reach.last_end.Reads as last-end-reads
 use Rattle.judging.proofs.reach.mark.Reads as mark-reads
 
 abbrev Inv-loop : tie.InvT-loop
-Inv-loop rows b all w from ends furthest found₀ members₀ to₀ found members to =
-    (furthest ≡ min (from + b .k + b .max) (length w)) × (from ≤ to) × (to ≤ furthest) × Good (may rows) b from to w members × Ends (may rows) b from to w ends found
+Inv-loop b all w from ends furthest found₀ members₀ to₀ found members to =
+    (furthest ≡ min (from + b .k + b .max) (length w)) × (from ≤ to) × (to ≤ furthest) × Good anyPair b from to w members × Ends anyPair b from to w ends found
 
 abbrev μ-loop : tie.MeasureT-loop
-μ-loop rows b all w from ends furthest found₀ members₀ to₀ found members to = furthest - to
+μ-loop b all w from ends furthest found₀ members₀ to₀ found members to = furthest - to
 
 cast-last-end : tie.Need-cast-last-end Inv-loop μ-loop
 cast-last-end c = omega arith
@@ -42,7 +41,7 @@ mark-requires c κs = (c .before .loop .inv .1, omega arith)
 marked-here : (c : tie.After-mark Inv-loop μ-loop)
     → let a = c .before .before .before .before .before .args in
     let l = c .before .before .loop in
-    Ends (may (a .rows .now)) (a .b) (a .from) (l .to + 1) (a .w .now) (a .ends) (c .mark .result)
+    Ends anyPair (a .b) (a .from) (l .to + 1) (a .w .now) (a .ends) (c .mark .result)
 marked-here c =
     let p = c .before .before .before .before .before .pre in
     let i = c .before .before .loop .inv in
@@ -52,15 +51,15 @@ shared-slice-read-x : tie.Need-shared-slice-read-x Inv-loop μ-loop
 shared-slice-read-x c = omega arith
 
 fresh-requires : tie.Need-fresh-requires Inv-loop μ-loop
-fresh-requires c κs = (c .before .before .before .before .before .before .before .pre .0, omega arith)
+fresh-requires c κs = c .before .before .before .before .before .before .before .pre .0
 
 returns : tie.Need-returns Inv-loop μ-loop
 returns c =
     let i = c .before .before .before .before .before .before .loop .inv in
-    ends-stop (c .before .before .before .before .before .before .before .before .before .pre .0) (i .1) (omega arith) (i .3) (c .before .before .if1 .taken) (c .before .fresh .ensures) (not-true _ (c .if2 .taken)) (marked-here (c .before .before .before .before))
+    ends-stop (c .before .before .before .before .before .before .before .before .before .pre .0) (i .1) (omega arith) (i .3) (c .before .before .if1 .taken) (c .before .fresh .ensures _) (not-true _ (c .if2 .taken)) (marked-here (c .before .before .before .before))
 
 with-requires : tie.Need-with-requires Inv-loop μ-loop
-with-requires c κs = fresh-below (c .before .before .before .before .before .before .before .before .before .pre .0) (c .before .fresh .ensures .passed (not-false _ (c .if2 .left)))
+with-requires c κs = fresh-below (c .before .before .before .before .before .before .before .before .before .pre .0) (c .before .fresh .ensures 0 .passed (not-false _ (c .if2 .left)))
 
 add-to : tie.Need-add-to Inv-loop μ-loop
 add-to c = omega arith
@@ -74,12 +73,12 @@ loop-again c =
     let l = c .before .before .before .before .loop in
     let i = l .inv in
     let inside : l .to < length (a .w .now) = omega arith in
-    let again : ℕ → Type 0 = λ members. Good (may (a .rows .now)) (a .b) (a .from) (l .to + 1) (a .w .now) members in (
+    let again : ℕ → Type 0 = λ members. Good anyPair (a .b) (a .from) (l .to + 1) (a .w .now) members in (
       i .0,
       omega arith,
       omega arith,
       ⊎-elim
-          (λ v. subst again (sym (v .4)) (good-member (i .1) inside (i .3) (v .1 .ensures .passed (not-false _ (v .2 .left))) (v .3 .ensures)))
+          (λ v. subst again (sym (v .4)) (good-member (i .1) inside (i .3) (v .1 .ensures _ .passed (not-false _ (v .2 .left))) (v .3 .ensures)))
           (λ v. subst again (sym (v .1)) (good-spare (i .1) inside (i .3) (v .0 .left)))
           (c .if1 .came),
       marked-here (c .before .before),
