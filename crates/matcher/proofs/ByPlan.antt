@@ -135,12 +135,6 @@ body-allows (setOf g) related n P h = h
 body-allows (superset es) related n P h = h
 body-allows (subset es) related n P h = h
 
-passing-test : (b r : Bool) → Passing (b ≡ true) r → r ≡ b
-passing-test b r h = ⊎-elim
-    (λ (t : b ≡ true). passing-holds h t ∙ sym t)
-    (λ (f : b ≡ false). ⊎-elim (λ (t : r ≡ true). absurd (clash (h .passed t) f)) (λ (e : r ≡ false). e ∙ sym f) (holds? r))
-    (holds? b)
-
 module _ {t : List ℕ} {p : Plan} {xs : List ℤ} (r : Ready t p (length xs)) (met : lengthMet (r .attribute) (length xs) ≡ true) {rows : List ℕ}
     (right : (es : List (Elem Leaf)) → Standing t es (take (p .members) (p .places)) → RowsOf es xs rows) where
   allowed : (P : (List ℕ → Type 0) → Type 0) → P (Allows (p .kind) (blocksIn (take (p .count) (p .blocks))) (p .members) (may rows) (length xs)) → P (ByBlocks (r .body) (may rows) (length xs))
@@ -158,7 +152,3 @@ module _ {t : List ℕ} {p : Plan} {xs : List ℤ} (r : Ready t p (length xs)) (
   pub best-by : {found : Bool} {w : List ℕ} → Best (Allows (p .kind) (blocksIn (take (p .count) (p .blocks))) (p .members) (may rows) (length xs)) (length xs) found w
       → Best (Obeys (template (r .attribute) (r .body)) xs) (length xs) found w
   best-by {found} {w} h = best-same there back (allowed (λ P. Best P (length xs) found w) h)
-
-  pub pass-by : (w : List ℕ) {s : Bool} → Passing (Allows (p .kind) (blocksIn (take (p .count) (p .blocks))) (p .members) (may rows) (length xs) w) s
-      → s ≡ obeys (template (r .attribute) (r .body)) xs w
-  pass-by w {s} h = passing-test (obeys (template (r .attribute) (r .body)) xs w) s (passing-same (there w) (back w) (allowed (λ P. Passing (P w) s) h))

@@ -1,9 +1,11 @@
 -- What the proofs of several functions use, and what other crates cite.
 -- ByPlan         == from the plan, the rows and the blocks to the rules
 -- PlannedAnswers == from there to the answers of the entry points
+-- JudgedPairs    == the judge by the pairs that a witness gives
 -- Copying        == the witness, byte by byte in front of what the room had
 -- Unique         == each promise allows one result only
 pub mod ByPlan
 pub mod PlannedAnswers
+mod JudgedPairs
 mod Copying
 pub mod Unique

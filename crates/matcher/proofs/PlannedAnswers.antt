@@ -27,7 +27,7 @@ use Rattle.matching.specs.Obeys.{lengthMet, obeys, Obeys}
 use Rattle.matching.specs.Answer.{given, written, matchRead, matchAnswer, judgeRead, judgeAnswer, Taken}
 use Rattle.matching.proofs.FirstWitness.{witness-first}
 use Rattle.matching.proofs.Answers.{few-members, reads, unmatched-where, refused-where, judges, judged}
-use Rattle.matcher.proofs.ByPlan.{Ready, planned-ready, length-by, unmet-none, best-by, pass-by}
+use Rattle.matcher.proofs.ByPlan.{Ready, planned-ready, length-by, unmet-none, best-by}
 
 -- the first of the lists that obey is the answer's witness
 matched-first : (t : List ℕ) (xs : List ℤ) (room : List ℕ) (s : Template Leaf) → Taken t xs → length xs ≤ length room → readTemplate leafHead t ≡ got s []
@@ -84,8 +84,3 @@ module _ (t : List ℕ) (xs : List ℤ) (taken : Taken t xs) (p : Plan) (plan : 
             let s = first .size in
             let l : length xs ≤ 32 = taken .1 in
             ap (given 0) c ∙ sym (matched-first t xs room (template (ready .attribute) (ready .body)) taken fits (ready .accepted) (take (length xs) w) (first .best f) (length-take-le (length xs) w (omega arith)))
-
-      pub judge-says : (w : List ℕ) → length w ≡ length xs → (r : Bool) → Passing (Allows (p .kind) (blocksIn (take (p .count) (p .blocks))) (p .members) (may rows) (length w) w) r → cond r 0 1 ≡ judgeAnswer t xs w
-      judge-says w size r h =
-          let s = template (ready .attribute) (ready .body) in
-          ap (λ b. cond b 0 1) (pass-by ready (sym met-is ∙ so) right w (rw size at h)) ∙ sym (judged t xs w s taken size (ready .accepted))

@@ -17,10 +17,12 @@ use format::ROOM_TOO_SHORT;
 use format::TEMPLATE_MOST;
 use format::TOO_LONG;
 use member_rows::rows_of;
+use obeying::body_met;
+use pairs::WRONG;
+use pairs::left_over;
 use plans::Plan;
 use template::plan_of;
 use witnesses::first_witness;
-use witnesses::witness_passes;
 
 // Whether a list of n elements meets the length attribute.
 pub fn length_met(low: u8, high: u8, n: usize) -> bool
@@ -110,9 +112,11 @@ pub fn judge_planned(template: &[u8], plan: Plan, list: &[i32], witness: &[u8]) 
     if !length_met(plan.low, plan.high, list.len()) {
         return NO_MATCH;
     }
-    let members = plan.members;
-    let rows = rows_of(template, &plan.places, members, list);
-    if witness_passes(plan.kind, &plan.blocks, plan.count, members, &rows, witness) {
+    let left = left_over(template, &plan.places, plan.members, list, witness);
+    if left == WRONG {
+        return NO_MATCH;
+    }
+    if body_met(plan.kind, &plan.blocks, plan.count, left, witness) {
         return DONE;
     }
     NO_MATCH

@@ -1,12 +1,11 @@
--- A subset is filled by its members, and every other body is cut by its blocks: so the first filling or cut is the first of what the body allows, and the
--- test of a filling or a cut is the test of it. Assumes nothing.
+-- A subset is filled by its members, and every other body is cut by its blocks: so the first filling or cut is the first of what the body allows. Assumes nothing.
 use mathlib.Core.Path.{_≡_, sym, subst}
 use mathlib.Core.Bool.{Bool}
 use mathlib.Core.List.{List}
 use Prim.Native.Nat.{ℕ}
 use borrow.Author.Tests.{eq-eqb, ne-eqb}
 use Rattle.blocks.specs.declared.Block.{Block}
-use Rattle.blocks.specs.Pieces.{Cuts, Fills, Best, Passing}
+use Rattle.blocks.specs.Pieces.{Cuts, Fills, Best}
 use Rattle.witnesses.specs.ByRows.{AllowsBy, Allows}
 
 module _ (kind : ℕ) (bs : List Block) (k : ℕ) (may : ℕ → ℕ → Bool) (n : ℕ) where
@@ -23,9 +22,3 @@ module _ (kind : ℕ) (bs : List Block) (k : ℕ) (may : ℕ → ℕ → Bool) (
 
   pub first-blocks : {found : Bool} {w : List ℕ} → (kind ≡ 0x13 → ⊥) → Best (Cuts may bs 0 n) n found w → Best (Allows kind bs k may n) n found w
   first-blocks {found} {w} q h = blocks-allow (λ (P : List ℕ → Type 0). Best P n found w) q h
-
-  pub passing-subset : (w : List ℕ) {r : Bool} → kind ≡ 0x13 → Passing (Fills may k n w) r → Passing (Allows kind bs k may n w) r
-  passing-subset w {r} q h = subset-allows (λ (P : List ℕ → Type 0). Passing (P w) r) q h
-
-  pub passing-blocks : (w : List ℕ) {r : Bool} → (kind ≡ 0x13 → ⊥) → Passing (Cuts may bs 0 n w) r → Passing (Allows kind bs k may n w) r
-  passing-blocks w {r} q h = blocks-allow (λ (P : List ℕ → Type 0). Passing (P w) r) q h

@@ -7,11 +7,9 @@ use borrow.Fn.Kinds.{Dens, resT, endedOf}
 use contract.Lifetimes.{Lfts}
 use denote.Triple.Clauses.{AtExit}
 use Rattle.blocks.specs.declared.Found.{Found}
-use Rattle.blocks.proofs.FirstLists.{best-unique, passing-unique}
+use Rattle.blocks.proofs.FirstLists.{best-unique}
 use Rattle.witnesses.proofs.first_witness.Reads as first-reads
 use Rattle.witnesses.proofs.first_witness.Kinds as first-kinds
-use Rattle.witnesses.proofs.witness_passes.Reads as passes-reads
-use Rattle.witnesses.proofs.witness_passes.Kinds as passes-kinds
 
 abbrev made : Bool → List ℕ → Found
 made found w = record { found = found; w = w }
@@ -19,7 +17,3 @@ made found w = record { found = found; w = w }
 pub first-witness-unique : (κs : Lfts 2) (a : Dens κs first-kinds.ps) (r r' : resT first-kinds.r κs .Denot) (s s' : AtExit (endedOf 2 first-kinds.ps first-kinds.r) κs)
     → first-reads.Post κs a r s → first-reads.Post κs a r' s' → r ≡ r'
 first-witness-unique κs a r r' s s' p q = let u = best-unique p q in ap₂ made (u .0) (u .1)
-
-pub witness-passes-unique : (κs : Lfts 3) (a : Dens κs passes-kinds.ps) (r r' : resT passes-kinds.r κs .Denot) (s s' : AtExit (endedOf 3 passes-kinds.ps passes-kinds.r) κs)
-    → passes-reads.Post κs a r s → passes-reads.Post κs a r' s' → r ≡ r'
-witness-passes-unique κs a r r' s s' p q = passing-unique p q

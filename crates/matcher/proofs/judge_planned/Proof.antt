@@ -8,14 +8,13 @@ use lib.ListN.{length}
 use Rattle.matching.specs.Answer.{judgeAnswer}
 use Rattle.matching.proofs.Answers.{judge-two, judge-eleven, judge-thirteen}
 use Rattle.matcher.proofs.ByPlan.{Ready, planned-ready, ready-members, ready-inside}
-use Rattle.matcher.proofs.PlannedAnswers.{judge-refused, judge-unmet, judge-says}
+use Rattle.matcher.proofs.PlannedAnswers.{judge-refused, judge-unmet}
+use Rattle.matcher.proofs.JudgedPairs.{judge-wrong, judge-right}
 use Rattle.matcher.proofs.judge_planned.Statement.{statement}
 use Rattle.matcher.proofs.judge_planned.Tie as tie
 use Rattle.matcher.proofs.judge_planned.Reads as reads
 use Rattle.matcher.proofs.judge_planned.Lts as lts
 use Rattle.matcher.proofs.length_met.Reads as length-met-reads
-use Rattle.member_rows.proofs.rows_of.Reads as rows-of-reads
-use Rattle.witnesses.proofs.witness_passes.Reads as witness-passes-reads
 
 returns : tie.Need-returns
 returns c =
@@ -58,34 +57,50 @@ returns-5 c =
 ready : (c : tie.Else4) → let start = c .before .before .before .before .before .before in Ready (start .args .template .now) (start .args .t2) (length (start .args .list .now))
 ready c = planned-ready _ _ _ (c .before .before .before .before .before .before .pre) (c .if4 .left) (c .before .before .if2 .left)
 
-rows-of-requires : tie.Need-rows-of-requires
-rows-of-requires c κs = let r = ready (c .before .before .before .before) in (ready-members r, r .short)
-
-witness-passes-requires : tie.Need-witness-passes-requires
-witness-passes-requires c κs =
-    let zero = c .before .before .before .before .before .before .before .before in
+left-over-requires : tie.Need-left-over-requires
+left-over-requires c κs =
+    let zero = c .before .before .before .before in
     let r = ready zero in
-    (r .planned .fewBlocks, r .planned .fewMembers, omega (arith, zero .before .if3 .left, r .short), ready-inside r)
+    (ready-members r, r .short, zero .before .if3 .left)
 
--- what the test of the witness says is the answer
-says : (c : tie.After-witness-passes) → let a = c .before .before .before .before .before .before .before .before .before .before .before .before .before .before .before .args in
-    cond (c .witness-passes .result) 0 1 ≡ judgeAnswer (a .template .now) (a .list .now) (a .witness .now)
-says c =
-    let marked = c .before .before .before .before in
-    let met = marked .before .before .before in
+returns-6 : tie.Need-returns-6
+returns-6 c =
+    let paired = c .before in
+    let met = paired .before .before .before in
     let zero = met .before .before in
     let long = zero .before in
     let short = long .before in
     let small = short .before in
     let start = small .before .before .before in
     let a = start .args in
-    judge-says (a .template .now) (a .list .now) (small .if1 .left, short .if2 .left) (a .t2) (start .pre) (zero .if4 .left) _ (met .before .length-met .ensures) (not-false _ (met .if5 .left)) _ (marked .rows-of .ensures) (a .witness .now) (long .if3 .left) _ (c .witness-passes .ensures)
+    judge-wrong (a .template .now) (a .list .now) (small .if1 .left, short .if2 .left) (a .t2) (start .pre) (zero .if4 .left) _ (met .before .length-met .ensures) (not-false _ (met .if5 .left)) (a .witness .now) (long .if3 .left) _ (paired .left-over .ensures) (c .if6 .taken)
 
-returns-6 : tie.Need-returns-6
-returns-6 c = sym (ap (λ (b : Bool). cond b 0 1) (c .if6 .taken)) ∙ says (c .before)
+body-met-requires : tie.Need-body-met-requires
+body-met-requires c κs =
+    let zero = c .before .before .before .before .before .before .before .before in
+    let r = ready zero in
+    (r .planned .fewBlocks, omega (arith, zero .before .if3 .left, r .short), ready-inside r)
+
+-- what the test of the witness says is the answer
+says : (c : tie.After-body-met) → let a = c .before .before .before .before .before .before .before .before .before .before .before .before .before .before .before .args in
+    cond (c .body-met .result) 0 1 ≡ judgeAnswer (a .template .now) (a .list .now) (a .witness .now)
+says c =
+    let right = c .before .before .before in
+    let paired = right .before in
+    let met = paired .before .before .before in
+    let zero = met .before .before in
+    let long = zero .before in
+    let short = long .before in
+    let small = short .before in
+    let start = small .before .before .before in
+    let a = start .args in
+    judge-right (a .template .now) (a .list .now) (small .if1 .left, short .if2 .left) (a .t2) (start .pre) (zero .if4 .left) _ (met .before .length-met .ensures) (not-false _ (met .if5 .left)) (a .witness .now) (long .if3 .left) _ (paired .left-over .ensures) (right .if6 .left) _ (c .body-met .ensures)
 
 returns-7 : tie.Need-returns-7
-returns-7 c = sym (ap (λ (b : Bool). cond b 0 1) (c .if6 .left)) ∙ says (c .before)
+returns-7 c = sym (ap (λ (b : Bool). cond b 0 1) (c .if7 .taken)) ∙ says (c .before)
+
+returns-8 : tie.Need-returns-8
+returns-8 c = sym (ap (λ (b : Bool). cond b 0 1) (c .if7 .left)) ∙ says (c .before)
 
 pub judge-planned-spec : {M : Type 1} → statement M
 judge-planned-spec =
@@ -97,7 +112,8 @@ judge-planned-spec =
     returns-4
     length-met-requires
     returns-5
-    rows-of-requires
-    witness-passes-requires
+    left-over-requires
     returns-6
-    returns-7)
+    body-met-requires
+    returns-7
+    returns-8)

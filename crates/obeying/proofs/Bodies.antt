@@ -1,0 +1,145 @@
+-- What each kind of body asks of a witness whose pairs are right, by the members that are left over and the blocks. Assumes nothing.
+use mathlib.Core.Path.{_≡_, refl, sym, ap, _∙_, subst}
+use mathlib.Core.Bool.{Bool, true, false, _&&_}
+use mathlib.Core.Logic.{_⊎_, inl, inr, ⊎-elim}
+use mathlib.Core.List.{List, [], _∷_}
+use Prim.Native.Nat.{ℕ, zero, suc, _+_, _≤_, _<_}
+use native.Mathlib.Omega.{arith}
+use native.Mathlib.Nat.{zero-add}
+use borrow.Author.Tests.{eqb-true, eq-eqb, leb-true, le-leb}
+use lib.Dec.{eqb, leb}
+use lib.ListN.{length, getD, take}
+use Rattle.facts.specs.Counting.{cnt}
+use Rattle.facts.proofs.Cases.{below, clash, holds?, and-left, and-right, both}
+use Rattle.masks.specs.Masks.{bit}
+use Rattle.masks.proofs.Masks.{bit-none, bits-same}
+use Rattle.blocks.specs.declared.Block.{Block}
+use Rattle.blocks.specs.Numbers.{block, blockIn, blocksIn}
+use Rattle.blocks.specs.Pieces.{Cuts, Passing}
+use Rattle.blocks.proofs.Assignments.{once-test, test-once}
+use Rattle.blocks.proofs.FirstLists.{passing-holds}
+use Rattle.grammar.specs.Leaf.{Leaf}
+use Rattle.grammar.specs.Template.{Star, Group, grouped, Item, Body, recordOf, setOf, superset, subset, membersOf, membersOfGroup, membersOfItems}
+use Rattle.grammar.specs.Blocks.{minOf, maxOf, blockOfGroup, blocksOfItems, blocksOf, bodyKind}
+use Rattle.matching.specs.Obeys.{spare, groupTakes, cuts, bodyMet}
+use Rattle.matching.proofs.ItemsAsBlocks.{Within, Once, MayAll, Piece, group-says, group-test, length-once}
+use Rattle.matching.proofs.RulesByBlocks.{cuts-says, cuts-test}
+use Rattle.judging.specs.Reach.{anyPair}
+use Rattle.obeying.specs.Spread.{Says, Spread}
+
+-- two tests that imply each other
+same-test : (a b : Bool) → (a ≡ true → b ≡ true) → (b ≡ true → a ≡ true) → a ≡ b
+same-test true b f g = sym (f refl)
+same-test false true f g = g refl
+same-test false false f g = refl
+
+-- any pair is right
+any-all : (e : ℕ) (w : List ℕ) → MayAll anyPair e w
+unfolding MayAll
+any-all e [] = tt
+any-all e (x ∷ w) = (inr refl, any-all (suc e) w)
+
+within-from : (k : ℕ) (w : List ℕ) → ((e : ℕ) → e < length w → (getD w e 0 ≡ 255) ⊎ (getD w e 0 < k)) → Within 0 k w
+unfolding Within
+within-from k [] h = tt
+within-from k (x ∷ w) h = (
+  ⊎-elim (λ (q : x ≡ 255). inl q) (λ (q : x < k). inr (omega arith, omega arith)) (h 0 (omega arith)),
+  within-from k w (λ e l. h (suc e) (omega arith)),
+)
+
+-- the first block of numbers that say one block
+pub first-block : (count : ℕ) (vs : List ℕ) (b : Block) → blocksIn (take count vs) ≡ b ∷ [] → blockIn (getD vs 0 0) ≡ b
+unfolding blocksIn
+first-block zero vs b q = absurd (none q)
+  where
+    none : _≡_ {A = List Block} [] (b ∷ []) → ⊥
+    none e = let z : _≡_ {A = ℕ} 0 1 = cc in omega arith
+first-block (suc count) [] b q = absurd (none q)
+  where
+    none : _≡_ {A = List Block} [] (b ∷ []) → ⊥
+    none e = let z : _≡_ {A = ℕ} 0 1 = cc in omega arith
+first-block (suc count) (v ∷ vs) b q = cc
+
+module _ (b : Body Leaf) (w : List ℕ) (left : ℕ) (s : Spread b w left) where
+  abbrev k : ℕ
+  k = length (membersOf b)
+
+  within : Within 0 k w
+  within = within-from k w (s .bytes)
+
+  -- no member is left over: each stands once
+  all-once : left ≡ 0 → Once 0 k w
+  all-once z v a u = ⊎-elim
+      (λ (h : cnt v w < 1). absurd (clash (s .left-over .all v (omega arith) (omega arith)) (ap (λ (n : ℕ). bit n v) z ∙ bit-none v)))
+      (λ (h : 1 ≤ cnt v w). let o = s .once v (omega arith) in omega arith)
+      (below (cnt v w) 1)
+
+  none-left : Once 0 k w → left ≡ 0
+  none-left o = bits-same left 0 (λ m. ⊎-elim
+      (λ (h : bit left m ≡ true). let l = s .left-over .only m h in let c = o m (omega arith) (omega (arith, l .0)) in absurd (omega (arith, l .1)))
+      (λ (h : bit left m ≡ false). h ∙ sym (bit-none m))
+      (holds? (bit left m)))
+
+  -- what the code tests of the one block
+  abbrev tested : ℕ → ℕ → Bool
+  tested min max = eqb left 0 && (leb (k + min) (length w) && leb (length w) (k + max))
+
+  piece-tested : (min max : ℕ) → Piece 0 k min max w → tested min max ≡ true
+  piece-tested min max p = both (eqb left 0) _ (eq-eqb left 0 (none-left (p .once))) (both (leb (k + min) (length w)) _ (le-leb (k + min) (length w) (p .enough)) (le-leb (length w) (k + max) (p .few)))
+
+  tested-piece : (min max : ℕ) → tested min max ≡ true → Piece 0 k min max w
+  tested-piece min max h =
+      let r = and-right (eqb left 0) (leb (k + min) (length w) && leb (length w) (k + max)) h in
+      record {
+        within = within;
+        once = all-once (eqb-true left 0 (and-left (eqb left 0) (leb (k + min) (length w) && leb (length w) (k + max)) h));
+        enough = leb-true (k + min) (length w) (and-left (leb (k + min) (length w)) (leb (length w) (k + max)) r);
+        few = leb-true (length w) (k + max) (and-right (leb (k + min) (length w)) (leb (length w) (k + max)) r);
+      }
+
+-- ---- a set of and a superset: one block
+
+module _ (w : List ℕ) (left : ℕ) (short : length w ≤ 32) (one : Block) (r : Bool) (told : r ≡ (eqb left 0 && (leb (one .k + one .min) (length w) && leb (length w) (one .k + one .max)))) where
+  -- the block under its own name
+  told-as : (k min max : ℕ) → one ≡ block 0 k min max → r ≡ (eqb left 0 && (leb (k + min) (length w) && leb (length w) (k + max)))
+  told-as k min max q = told ∙ rw q refl
+
+  pub one-kind : (kind : ℕ) (bs : List Block) (b : Body Leaf) → Says kind bs b → Spread b w left → (kind ≡ 0x13 → ⊥) → (kind ≡ 0x10 → ⊥) → ((c : Block) → bs ≡ c ∷ [] → one ≡ c) → r ≡ bodyMet b w
+  unfolding bodyKind blocksOf bodyMet membersOf membersOfGroup blockOfGroup
+  one-kind kind bs (recordOf is) says s n13 n10 at = absurd (n10 (says .kind-is))
+  one-kind kind bs (subset es) says s n13 n10 at = absurd (n13 (says .kind-is))
+  one-kind kind bs (setOf (grouped es st)) says s n13 n10 at =
+      told-as (length es) (minOf st) (maxOf st) (at _ (says .cut))
+      ∙ same-test _ _
+        (λ h. group-test 0 (grouped es st) w (let f = s .few in omega arith) (tested-piece (setOf (grouped es st)) w left s (minOf st) (maxOf st) h))
+        (λ h. piece-tested (setOf (grouped es st)) w left s (minOf st) (maxOf st) (group-says 0 (grouped es st) w (let f = s .few in omega arith) h))
+  one-kind kind bs (superset es) says s n13 n10 at =
+      told-as (length es) 0 255 (at _ (says .cut))
+      ∙ same-test _ _
+        (λ h. once-test 0 (length es) w (tested-piece (superset es) w left s 0 255 h .once))
+        (λ h.
+        let o = test-once 0 (length es) w h in
+        let f = s .few in
+        let i = within (superset es) w left s in
+        let z = length-once 0 (length es) w (omega arith) i o in
+        piece-tested (superset es) w left s 0 255 (record { within = i; once = o; enough = omega arith; few = omega arith }))
+
+-- ---- a record of: its blocks; a subset: no spare element
+
+pub record-kind : (kind : ℕ) (bs : List Block) (b : Body Leaf) (w : List ℕ) (left : ℕ) (r : Bool) → Says kind bs b → Spread b w left → kind ≡ 0x10 → Passing (Cuts anyPair bs 0 (length w) w) r → r ≡ bodyMet b w
+unfolding bodyKind blocksOf bodyMet membersOf
+record-kind kind bs (recordOf is) w left r says s q h =
+    let f = s .few in
+    same-test _ _
+    (λ t. cuts-test anyPair 0 is 0 (length w) w (omega arith) (subst (λ (c : List Block). Cuts anyPair c 0 (length w) w) (says .cut) (h .passed t)) .test)
+    (λ t. passing-holds h (subst (λ (c : List Block). Cuts anyPair c 0 (length w) w) (sym (says .cut)) (rw (zero-add (length w)) at (cuts-says anyPair 0 is w 0 (omega arith) t (any-all 0 w)))))
+record-kind kind bs (setOf g) w left r says s q h = let z = sym q ∙ says .kind-is in absurd (omega arith)
+record-kind kind bs (superset es) w left r says s q h = let z = sym q ∙ says .kind-is in absurd (omega arith)
+record-kind kind bs (subset es) w left r says s q h = let z = sym q ∙ says .kind-is in absurd (omega arith)
+
+pub subset-kind : (kind : ℕ) (bs : List Block) (b : Body Leaf) (w : List ℕ) (r : Bool) → Says kind bs b → kind ≡ 0x13 → r ≡ eqb (cnt 255 w) 0 → r ≡ bodyMet b w
+unfolding bodyKind bodyMet
+subset-kind kind bs (subset es) w r says q h = h
+subset-kind kind bs (recordOf is) w r says q h = let z = sym q ∙ says .kind-is in absurd (omega arith)
+subset-kind kind bs (setOf g) w r says q h = let z = sym q ∙ says .kind-is in absurd (omega arith)
+subset-kind kind bs (superset es) w r says q h = let z = sym q ∙ says .kind-is in absurd (omega arith)

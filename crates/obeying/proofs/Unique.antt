@@ -1,0 +1,18 @@
+-- The public function's promise allows one result only, of every body that the parts are of, stated of the contract itself. Assumes nothing.
+use mathlib.Core.Path.{_≡_, sym, _∙_}
+use mathlib.Core.List.{List}
+use Prim.Native.Nat.{ℕ}
+use borrow.Fn.Kinds.{Dens, resT, endedOf}
+use contract.Lifetimes.{Lfts}
+use denote.Triple.Clauses.{AtExit}
+use lib.ListN.{take}
+use Rattle.blocks.specs.Numbers.{blocksIn}
+use Rattle.grammar.specs.Leaf.{Leaf}
+use Rattle.grammar.specs.Template.{Body}
+use Rattle.obeying.specs.Spread.{Says, Spread}
+use Rattle.obeying.proofs.body_met.Reads as body-met
+use Rattle.obeying.proofs.body_met.Kinds as body-met-kinds
+
+pub body-met-unique : (κs : Lfts 2) (a : Dens κs body-met-kinds.ps) (r r′ : resT body-met-kinds.r κs .Denot) (s s′ : AtExit (endedOf 2 body-met-kinds.ps body-met-kinds.r) κs)
+    → (b : Body Leaf) → Says (a .0) (blocksIn (take (a .1 .1 .0) (a .1 .0 .now))) b → Spread b (a .1 .1 .1 .1 .0 .now) (a .1 .1 .1 .0) → body-met.Post κs a r s → body-met.Post κs a r′ s′ → r ≡ r′
+body-met-unique κs a r r′ s s′ b says spread p q = p b says spread ∙ sym (q b says spread)

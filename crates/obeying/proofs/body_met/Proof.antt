@@ -1,0 +1,42 @@
+-- `body_met` meets its contract: each kind by what it asks. Assumes nothing.
+use native.Mathlib.Omega.{arith}
+use mathlib.Core.Path.{_∙_}
+use Rattle.obeying.proofs.Bodies.{first-block, one-kind, record-kind, subset-kind}
+use borrow.Author.Needs.{needs}
+use Rattle.obeying.proofs.body_met.Statement.{statement}
+use Rattle.obeying.proofs.body_met.Tie as tie
+
+none-spare-requires : tie.Need-none-spare-requires
+none-spare-requires c κs = search needs
+
+returns : tie.Need-returns
+returns c = λ b says spread. subset-kind _ _ b _ _ says (c .before .if1 .taken) (c .none-spare .ensures)
+
+cut-passes-requires : tie.Need-cut-passes-requires
+cut-passes-requires c κs = search needs
+
+returns-2 : tie.Need-returns-2
+returns-2 c = λ b says spread. record-kind _ _ b _ _ _ says spread (c .before .if2 .taken) (c .cut-passes .ensures)
+
+block-at-requires : tie.Need-block-at-requires
+block-at-requires c κs = search needs
+
+one-met-requires : tie.Need-one-met-requires
+one-met-requires c κs = search needs
+
+returns-3 : tie.Need-returns-3
+returns-3 c =
+    let start = c .before .before .before .before .before in
+    λ b says spread. one-kind _ _ (start .pre .1) _ _ (c .one-met .ensures) _ _ b says spread (c .before .before .before .if1 .left) (c .before .before .if2 .left) (λ d q. c .before .block-at .ensures ∙ first-block (start .args .count) (start .args .blocks .now) d q)
+
+pub body-met-spec : {M : Type 1} → statement M
+body-met-spec =
+    tie.close
+    (tie.spec
+    none-spare-requires
+    returns
+    cut-passes-requires
+    returns-2
+    block-at-requires
+    one-met-requires
+    returns-3)
