@@ -1,16 +1,16 @@
 -- The least free member for each element in turn. Assumes nothing.
--- greedy-start, greedy-none, greedy-some: before the first element, and one more, without and with a free member. greedy-done: where nobody is left.
+-- greedy-start, greedy-none, greedy-some: before the first element, and one more, without and with a free member. greedy-rest, greedy-done: where nobody is left.
 use mathlib.Core.Path.{_≡_, sym, ap, _∙_, subst}
 use mathlib.Core.Logic.{_⊎_, inl, inr, ⊎-elim}
 use mathlib.Core.Bool.{Bool, true, false}
 use mathlib.Core.List.{List}
-use Prim.Native.Nat.{ℕ, _+_, _≤_, _<_}
+use Prim.Native.Nat.{ℕ, zero, suc, _+_, _-_, _≤_, _<_}
 use native.Mathlib.Omega.{arith}
 use lib.ListN.{getD, set, replicate, getD-replicate}
 use lib.Seq.{getD-set-same, getD-set-other}
 use Rattle.masks.specs.Masks.{bit, Flipped}
 use Rattle.facts.specs.Counting.{between}
-use Rattle.facts.proofs.Cases.{same?, below, holds?, not-so}
+use Rattle.facts.proofs.Cases.{same?, below, holds?, clash, not-so}
 use Rattle.facts.proofs.Spans.{between-from, between-to}
 use Rattle.masks.proofs.Masks.{bit-none}
 use Rattle.refining.specs.AsBytes.{fits, Dealt}
@@ -127,6 +127,20 @@ module _ {may : ℕ → ℕ → Bool} {first k from to : ℕ} {w : List ℕ} {le
         };
         blank = λ i f z. other i (λ q. omega arith) ∙ g .blank i (omega arith) z;
       }
+
+-- nobody is left: the elements from e on are spare
+greedy-on : {may : ℕ → ℕ → Bool} {first k from to : ℕ} {w : List ℕ} {left : ℕ → Bool} {e : ℕ} → first + k ≤ 32 → from ≤ e → to ≤ 32 → ((m : ℕ) → left m ≡ false)
+    → (n : ℕ) → e + n ≤ to → GreedyTo may first k from to w left e → GreedyTo may first k from to w left (e + n)
+greedy-on {may} {first} {k} {from} {to} {w} {left} {e} block piece end none zero l g = subst (λ (i : ℕ). GreedyTo may first k from to w left i) (omega arith) g
+greedy-on {may} {first} {k} {from} {to} {w} {left} {e} block piece end none (suc n) l g =
+    subst (λ (i : ℕ). GreedyTo may first k from to w left i) (omega arith)
+    (greedy-none (greedy-on block piece end none n (omega arith) g) block (omega arith) (omega arith) end (λ m t o. clash t (none m)))
+
+pub greedy-rest : {may : ℕ → ℕ → Bool} {first k from to : ℕ} {w : List ℕ} {left : ℕ} {e : ℕ} → first + k ≤ 32 → from ≤ e → e ≤ to → to ≤ 32 → left ≡ 0
+    → GreedyTo may first k from to w (bit left) e → Greedy may first k from to w (bit left) to
+greedy-rest {may} {first} {k} {from} {to} {w} {left} {e} block piece early end none g =
+    subst (λ (i : ℕ). Greedy may first k from to w (bit left) i) (omega arith)
+    (greedy-on block piece end (λ m. ap (λ (n : ℕ). bit n m) none ∙ bit-none m) (to - e) (omega arith) g .greedy)
 
 -- every member stands
 pub greedy-done : {may : ℕ → ℕ → Bool} {first k from to : ℕ} {w : List ℕ} {left : ℕ} → Greedy may first k from to w (bit left) to → left ≡ 0 → Leads may first k from to w to

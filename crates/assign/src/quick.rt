@@ -18,6 +18,10 @@ pub fn quick(rows: &[u32; 32], first: u8, k: u8, from: u8, to: u8) -> Served
     let mut left = span(first, first + k);
     let mut e = from;
     while e < to {
+        // nobody is left: the other elements are spare
+        if left == 0 {
+            return Served { w, waiting: left };
+        }
         let free = rows[e as usize] & left;
         if free != 0 {
             let m = lowest(free);

@@ -3,6 +3,7 @@
 -- Plus P m S   <-> the set S is P with m in it
 -- Flipped P k S <-> the set S is P but for k, which is in just one of them
 -- Lowest n e   <-> e is the least number in the mask n
+-- Highest n e  <-> e is the greatest number in the mask n
 -- Meets a b r  <-> r says whether the masks a and b have a number in common
 -- Assumes nothing: these are definitions.
 use mathlib.Core.Path.{_≡_}
@@ -25,6 +26,11 @@ pub record Lowest (n e : ℕ) : Type 0 where
   pub low : e < 32
   pub inside : bit n e ≡ true
   pub least : (j : ℕ) → j < e → bit n j ≡ false
+
+pub record Highest (n e : ℕ) : Type 0 where
+  pub low : e < 32
+  pub inside : bit n e ≡ true
+  pub greatest : (j : ℕ) → e < j → bit n j ≡ false
 
 pub record Meets (a b : ℕ) (r : Bool) : Type 0 where
   pub some : r ≡ true → (v : ℕ) × (bit a v ≡ true) × (bit b v ≡ true)

@@ -11,7 +11,7 @@ use lib.ListN.{getD}
 use Rattle.facts.proofs.Cases.{clash, both}
 use Rattle.masks.proofs.Masks.{and-bits, and-none, bit-and}
 use Rattle.rows.proofs.Rows.{row-may}
-use Rattle.assign.proofs.LeastFree.{GreedyTo, greedy-start, greedy-none, greedy-some}
+use Rattle.assign.proofs.LeastFree.{GreedyTo, greedy-start, greedy-none, greedy-some, greedy-rest}
 use Rattle.assign.proofs.quick.quick.Statement.{statement}
 use Rattle.assign.proofs.quick.quick.Tie as tie
 
@@ -30,6 +30,14 @@ span-requires c κs = (omega arith, omega arith)
 loop-holds : tie.Need-loop-holds Inv-loop μ-loop
 loop-holds c = let p = c .before .pre in (omega arith, omega arith, greedy-start (p .0) (p .1) (p .2) (c .span .ensures))
 
+-- nobody is left
+returns : tie.Need-returns Inv-loop μ-loop
+returns c =
+    let l = c .before .before in
+    let p = l .before .before .pre in
+    let i = l .loop .inv in
+    greedy-rest (p .0) (i .0) (i .1) (p .2) (c .if1 .taken) (i .2)
+
 cast-free : tie.Need-cast-free Inv-loop μ-loop
 cast-free c = omega arith
 
@@ -40,7 +48,7 @@ element-copy-out-free : tie.Need-element-copy-out-free Inv-loop μ-loop
 element-copy-out-free c = omega arith
 
 lowest-requires : tie.Need-lowest-requires Inv-loop μ-loop
-lowest-requires c κs = let n = c .if1 .taken in omega arith
+lowest-requires c κs = let n = c .if2 .taken in omega arith
 
 cast-w : tie.Need-cast-w Inv-loop μ-loop
 cast-w c = omega arith
@@ -59,7 +67,7 @@ loop-less c = omega arith
 
 loop-again : tie.Need-loop-again Inv-loop μ-loop
 loop-again c =
-    let l = c .before .before .before in
+    let l = c .before .before .before .before in
     let a = l .before .before .args in
     let p = l .before .before .pre in
     let i = l .loop .inv in
@@ -78,11 +86,11 @@ loop-again c =
           (λ j z f o. clash (bit-and row left j ∙ both (bit row j) (bit left j) (row-may rows j e ∙ o) f) (low .least j z)) (w .2 .ensures)))
           (λ w. subst₂ again (sym (w .1)) (sym (w .2)) (greedy-none (i .2) (p .0) (i .0) (omega arith) (p .2)
           (λ m f o. and-none row left m (w .0 .left) (row-may rows m e ∙ o) f)))
-          (c .if1 .came),
+          (c .if2 .came),
     )
 
-returns : tie.Need-returns Inv-loop μ-loop
-returns c =
+returns-2 : tie.Need-returns-2 Inv-loop μ-loop
+returns-2 c =
     let g = c .before .loop .inv .2 .greedy in
     let done : c .before .loop .e ≡ c .before .before .before .args .to = omega arith in
     rw done at g
@@ -96,6 +104,7 @@ quick-spec =
     add-span
     span-requires
     loop-holds
+    returns
     cast-free
     mul-free
     element-copy-out-free
@@ -106,4 +115,4 @@ quick-spec =
     add-e
     loop-less
     loop-again
-    returns)
+    returns-2)
