@@ -97,7 +97,7 @@ module _ {may : ℕ → ℕ → Bool} {first k from to : ℕ} {w : List ℕ} {le
       let was = g .blank e (omega arith) (omega arith) in
       record {
         greedy = record {
-          partly = partly-served p block l flip (give-spare {P = λ v. false} e sw low (omega arith) (within-in may from to m e o piece early) (omega arith) .served);
+          partly = partly-served p block l flip (give-spare e sw low (omega arith) (within-in may from to m e o piece early) (omega arith));
           leads = λ a d. ⊎-elim
               (λ (h : Agrees a w e).
               let before : (i : ℕ) → i < e → getD a i 0 ≡ getD x i 0 = λ i z. h i z ∙ sym (other i (λ q. omega arith)) in

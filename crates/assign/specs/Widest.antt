@@ -1,5 +1,4 @@
 -- As many members as can be: what the contracts of `widest_assignment` and of src/widest.rt cite.
--- Nowhere R w <-> the members of R are below 32 and stand nowhere in w
 -- Closed may first k from to w D <-> D is a set of members of the block, and every element of the piece that one of them may take is held by one of them
 -- Widest may first k from to w U <-> w is an assignment of the piece by the members of the block that are not in U, and those of U, who wait, lie in a
 --   closed set: so no list serves more members
@@ -7,13 +6,10 @@
 use mathlib.Core.Path.{_≡_}
 use mathlib.Core.Bool.{Bool, true}
 use mathlib.Core.List.{List}
-use Prim.Native.Nat.{ℕ, _+_, _<_}
-use Rattle.facts.specs.Counting.{between, cnt}
+use Prim.Native.Nat.{ℕ, _+_}
+use Rattle.facts.specs.Counting.{between}
 use Rattle.chains.specs.Chain.{Owned}
 use Rattle.refining.specs.AsBytes.{Partly}
-
-abbrev pub Nowhere : (ℕ → Bool) → List ℕ → Type 0
-Nowhere R w = (v : ℕ) → R v ≡ true → (v < 32) × (cnt v w ≡ 0)
 
 pub record Closed (may : ℕ → ℕ → Bool) (first k from to : ℕ) (w : List ℕ) (D : ℕ → Bool) : Type 0 where
   pub inside : (v : ℕ) → D v ≡ true → between first (first + k) v ≡ true

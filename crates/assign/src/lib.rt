@@ -39,7 +39,7 @@ pub fn first_assignment(rows: &[u32; 32], first: u8, k: u8, from: u8, to: u8) ->
         return s;
     }
     let w = s.w;
-    let x = refine(&columns, from, to, w);
+    let x = refine(rows, &columns, first, k, from, to, w);
     Found { found: true, w: x }
 }
 

@@ -5,12 +5,13 @@ ghost use Rattle.rows.specs.Rows.{picks};
 ghost use Rattle.refining.specs.AsBytes.{Partly};
 ghost use Rattle.assign.specs.Saturate.{Saturated};
 use blocks::Found;
-use chains::open_places;
+use chains::explore;
 use chains::settle;
+use chains::spare_places;
 use format::SPARE;
 use masks::flip;
 use masks::lowest;
-use masks::with;
+use masks::span;
 
 // An assignment of the elements from .. to - 1, from one in which the members of `left` have none.
 pub fn saturate(columns: &[u32; 32], from: u8, to: u8, begun: [u8; 32], left: u32) -> Found
@@ -18,23 +19,21 @@ pub fn saturate(columns: &[u32; 32], from: u8, to: u8, begun: [u8; 32], left: u3
     ensures { λ r. ⌜ ((first k : ℕ) → first + k ≤ 32 → Partly (picks (now (columns .entry))) first k from to begun (bit left) → Saturated (picks (now (columns .entry))) first k from to (r .found) (r .w)) ⌝ }
 {
     let mut w = begun;
-    let open = open_places(w, from, to);
-    let mut free = open.free;
-    let mut held = open.held;
+    let piece = span(from, to);
+    let mut free = spare_places(w, from, to);
     let mut waiting = left;
     while waiting != 0 {
         let m = lowest(waiting);
-        let c = settle(columns, free, held, w, m, 0);
-        if !c.found {
+        let mut tried = piece ^ free;
+        if !explore(columns, free, &mut tried, &w, m) {
             let blank = [SPARE; 32];
             return Found {
                 found: false,
                 w: blank,
             };
         }
-        free = flip(free, c.taken);
-        held = with(held, c.taken);
-        w = c.w;
+        let end = settle(columns, free, &mut tried, &mut w, m);
+        free = flip(free, end);
         waiting = flip(waiting, m);
     }
     Found { found: true, w: w }

@@ -1,33 +1,24 @@
 -- The steps of `settle`, over any sets of members and of places: no code and no bits. Assumes nothing.
 -- A place is open if it is in F (spare) or in H (held). `Walk` is the loop's invariant.
-use mathlib.Core.Path.{_≡_, refl, sym, ap, _∙_, subst, subst₂}
+-- spares-*: the spare places of a piece, one by one, and after a chain. ready: what a search asks of them.
+use mathlib.Core.Path.{_≡_, refl, sym, ap, _∙_, subst}
 use mathlib.Core.Logic.{_⊎_, inl, inr, ⊎-elim}
 use mathlib.Core.Bool.{Bool, true, false, not, _||_}
 use mathlib.Core.List.{List}
 use Prim.Native.Nat.{ℕ, _+_, _≤_, _<_}
 use native.Mathlib.Omega.{arith}
+use lib.Bits.{bitAnd, bitXor}
 use lib.ListN.{length, getD, set, length-set}
 use lib.Seq.{getD-set-same, getD-set-other}
-use borrow.Author.Tests.{not-true}
 use Rattle.facts.specs.Counting.{between, cnt, count}
-use Rattle.masks.specs.Masks.{Plus, Flipped}
-use Rattle.chains.specs.Chain.{Opened, Ready, reach, within, Owned, Served, Gave, Filled, Stuck, Settled, Placed}
+use Rattle.masks.specs.Masks.{bit, Plus, Flipped}
+use Rattle.chains.specs.Chain.{Spares, Ready, reach, within, Served, Filled, Shut, Stuck, Settled}
 use Rattle.facts.proofs.Cases.{same?, below, holds?, clash, not-so, and-left, and-right, both, one-of, or-left, or-right, hit, miss}
 use Rattle.facts.proofs.Spans.{between-in, between-from, between-to}
-use Rattle.facts.proofs.Counting.{cnt-set, cnt-at, count-less}
+use Rattle.facts.proofs.Counting.{cnt-set, count-less}
+use Rattle.masks.proofs.Masks.{odd, bit-and, bit-xor, and-bits}
 
--- ---- the measures
-
--- how many members are not in the set
-abbrev pub unseen : (ℕ → Bool) → ℕ
-unseen P = count (λ v. not (P v)) 32
-
-pub unseen-falls : {P S : ℕ → Bool} → ((v : ℕ) → P v ≡ true → S v ≡ true) → (m : ℕ) → m < 32 → P m ≡ false → S m ≡ true → unseen S < unseen P
-unseen-falls {P} {S} up m low p s = count-less {P = λ v. not (S v)} {S = λ v. not (P v)}
-    (λ v h. ⊎-elim (λ (q : P v ≡ true). absurd (clash (up v q) (not-true (S v) h))) (λ (q : P v ≡ false). ap not q) (holds? (P v)))
-    m (ap not s) (ap not p) 32 low
-
--- a mask from which a place was taken
+-- ---- a mask from which a place was taken
 pub flipped-down : {G K : ℕ → Bool} {e : ℕ} → Flipped G e K → G e ≡ true → (j : ℕ) → K j ≡ true → G j ≡ true
 flipped-down {G} {K} {e} f here j t = ⊎-elim (λ (q : j ≡ e). rw q here) (λ (n : j ≡ e → ⊥). sym (f .other j n) ∙ t) (same? j e)
 
@@ -41,11 +32,11 @@ left-falls {G} {K} {L} e f here low down = count-less {P = L} {S = G}
     e (not-so (L e) (λ q. clash (down e q) (flipped-out f here))) here 32 low
 
 -- ---- what may be reached, by more places
-reach-row : (may : ℕ → ℕ → Bool) (F H : ℕ → Bool) (v e : ℕ) → reach may F H v e ≡ true → may v e ≡ true
+pub reach-row : (may : ℕ → ℕ → Bool) (F H : ℕ → Bool) (v e : ℕ) → reach may F H v e ≡ true → may v e ≡ true
 unfolding reach
 reach-row may F H v e o = and-left (may v e) (F e || H e) o
 
-reach-open : (may : ℕ → ℕ → Bool) (F H : ℕ → Bool) (v e : ℕ) → reach may F H v e ≡ true → (F e ≡ true) ⊎ (H e ≡ true)
+pub reach-open : (may : ℕ → ℕ → Bool) (F H : ℕ → Bool) (v e : ℕ) → reach may F H v e ≡ true → (F e ≡ true) ⊎ (H e ≡ true)
 unfolding reach
 reach-open may F H v e o = one-of (F e) (H e) (and-right (may v e) (F e || H e) o)
 
@@ -55,9 +46,9 @@ reach-free may F H v e r f = both (may v e) (F e || H e) r (or-left (F e) (H e) 
 
 pub reach-held : (may : ℕ → ℕ → Bool) (F H : ℕ → Bool) (v e : ℕ) → may v e ≡ true → H e ≡ true → reach may F H v e ≡ true
 unfolding reach
-reach-held may F H v e r f = both (may v e) (F e || H e) r (or-right (F e) (H e) f)
+reach-held may F H v e r h = both (may v e) (F e || H e) r (or-right (F e) (H e) h)
 
-reach-wider : (may : ℕ → ℕ → Bool) (F G H : ℕ → Bool) → ((e : ℕ) → G e ≡ true → H e ≡ true) → (v e : ℕ) → reach may F G v e ≡ true → reach may F H v e ≡ true
+pub reach-wider : (may : ℕ → ℕ → Bool) (F G H : ℕ → Bool) → ((e : ℕ) → G e ≡ true → H e ≡ true) → (v e : ℕ) → reach may F G v e ≡ true → reach may F H v e ≡ true
 reach-wider may F G H up v e o = ⊎-elim
     (λ f. reach-free may F H v e (reach-row may F G v e o) f)
     (λ f. reach-held may F H v e (reach-row may F G v e o) (up e f))
@@ -73,96 +64,42 @@ served-wider {w} {x} up s = record {
   spare = s .spare;
 }
 
-pub owned-wider : {S R : ℕ → Bool} {w : List ℕ} → ((v : ℕ) → S v ≡ true → R v ≡ true) → (k : ℕ) → Owned S w k → Owned R w k
-owned-wider up k o = record { low = o .low; seen = up _ (o .seen) }
+-- what is not open stays
+pub served-kept : (may : ℕ → ℕ → Bool) (F H : ℕ → Bool) {w x : List ℕ} {m : ℕ} → Served (reach may F H) w m x → (e : ℕ) → F e ≡ false → H e ≡ false → getD x e 0 ≡ getD w e 0
+served-kept may F H {w} {x} s e f h = ⊎-elim
+    (λ (q : getD x e 0 ≡ getD w e 0). q)
+    (λ (o : reach may F H (getD x e 0) e ≡ true). absurd (⊎-elim (λ (t : F e ≡ true). clash t f) (λ (t : H e ≡ true). clash t h) (reach-open may F H _ e o)))
+    (s .moved e)
 
--- ---- the loop: S are the members tried so far, G the held places that are not tried yet; `others` is of members other than m
-pub record Walk (may : ℕ → ℕ → Bool) (F H P S G : ℕ → Bool) (w : List ℕ) (m : ℕ) : Type 0 where
-  pub grew : (v : ℕ) → P v ≡ true → S v ≡ true
-  pub self : S m ≡ true
-  pub holders : (v : ℕ) → S v ≡ true → P v ≡ false → (v ≡ m) ⊎ ((v < 32) × (1 ≤ cnt v w))
-  pub others : (v : ℕ) → S v ≡ true → P v ≡ false → (v ≡ m → ⊥) → (e : ℕ) → e < 32 → reach may F H v e ≡ true → Owned S w e
+-- ---- the loop: G are the held places that are not tried yet
+pub record Walk (may : ℕ → ℕ → Bool) (F H G : ℕ → Bool) (w : List ℕ) : Type 0 where
   pub fell : (e : ℕ) → G e ≡ true → H e ≡ true
-  pub tried : (e : ℕ) → e < 32 → H e ≡ true → G e ≡ false → Owned S w e
+  pub tried : (e : ℕ) → H e ≡ true → G e ≡ false → Shut may F G (getD w e 0)
 
-module _ {may : ℕ → ℕ → Bool} {F H P S : ℕ → Bool} {w : List ℕ} {m : ℕ} where
-  -- the loop begins
-  pub begin : Plus P m S → Walk may F H P S H w m
-  begin h = record {
-    grew = λ v p. ⊎-elim (λ (q : v ≡ m). rw q (h .self)) (λ (n : v ≡ m → ⊥). h .other v n ∙ p) (same? v m);
-    self = h .self;
-    holders = λ v s p. ⊎-elim inl (λ n. absurd (clash s (h .other v n ∙ p))) (same? v m);
-    others = λ v s p n. absurd (clash s (h .other v n ∙ p));
-    fell = λ e h. h;
-    tried = λ e l p q. absurd (clash p q);
-  }
+pub walk-start : {may : ℕ → ℕ → Bool} {F H : ℕ → Bool} {w : List ℕ} → Walk may F H H w
+walk-start = record { fell = λ e h. h; tried = λ e h g. absurd (clash h g) }
 
-  -- a turn at e, whose owner was tried before
-  pub turn-seen : {G K : ℕ → Bool} (e : ℕ) → Walk may F H P S G w m → Flipped G e K → G e ≡ true → getD w e 0 < 32 → S (getD w e 0) ≡ true → Walk may F H P S K w m
-  turn-seen {G} {K} e h f here low seen = record {
-    grew = h .grew;
-    self = h .self;
-    holders = h .holders;
-    others = h .others;
-    fell = λ j k. h .fell j (flipped-down f here j k);
-    tried = λ j l p k. ⊎-elim
-        (λ (q : j ≡ e). record { low = rw q low; seen = rw q seen })
-        (λ (n : j ≡ e → ⊥). h .tried j l p (sym (f .other j n) ∙ k))
-        (same? j e);
-  }
+-- a turn at e, whose owner cannot be moved
+pub walk-stuck : {may : ℕ → ℕ → Bool} {F H G K L : ℕ → Bool} {w : List ℕ} (e : ℕ) → Walk may F H G w → Flipped G e K → G e ≡ true → Stuck may F K L w (getD w e 0) → Walk may F H L w
+walk-stuck {may} {F} {H} {G} {K} {L} {w} e h f here k =
+    let down : (j : ℕ) → L j ≡ true → G j ≡ true = λ j t. flipped-down f here j (k .fell j t) in
+    record {
+      fell = λ j t. h .fell j (down j t);
+      tried = λ i p q. ⊎-elim
+          (λ (g : K i ≡ true). k .tried i g q)
+          (λ (g : K i ≡ false). ⊎-elim
+          (λ (z : i ≡ e). subst (λ (j : ℕ). Shut may F L (getD w j 0)) (sym z) (k .self))
+          (λ (n : i ≡ e → ⊥) (j : ℕ) (o : may (getD w i 0) j ≡ true).
+          let s = h .tried i p (sym (f .other i n) ∙ g) j o in
+          (s .0, not-so (L j) (λ t. clash (down j t) (s .1))))
+          (same? i e))
+          (holds? (K i));
+    }
 
-  -- a turn at e, whose owner cannot be moved
-  pub turn-stuck : {G K R L : ℕ → Bool} (e : ℕ) → e < length w → Walk may F H P S G w m → Flipped G e K → G e ≡ true → getD w e 0 < 32
-      → Stuck (reach may F K) S R K L w (getD w e 0) → Walk may F H P R L w m
-  turn-stuck {G} {K} {R} {L} e fits h f here low k =
-      let looked : (j : ℕ) → j < 32 → H j ≡ true → L j ≡ false → Owned R w j = λ j l p q. ⊎-elim
-      (λ (g : K j ≡ true). k .tried j l g q)
-      (λ (g : K j ≡ false). ⊎-elim
-      (λ (z : j ≡ e). record { low = rw z low; seen = rw z (k .self) })
-      (λ (n : j ≡ e → ⊥). owned-wider (k .grew) j (h .tried j l p (sym (f .other j n) ∙ g)))
-      (same? j e))
-      (holds? (K j)) in
-      record {
-        grew = λ v p. k .grew v (h .grew v p);
-        self = k .grew m (h .self);
-        holders = λ v r p. ⊎-elim
-            (λ (s : S v ≡ true). h .holders v s p)
-            (λ (s : S v ≡ false). ⊎-elim (λ (q : v ≡ getD w e 0). inr (rw q low, rw q (cnt-at w e fits))) inr (k .holders v r s))
-            (holds? (S v));
-        others = λ v r p n j l o. ⊎-elim
-            (λ (s : S v ≡ true). owned-wider (k .grew) j (h .others v s p n j l o))
-            (λ (s : S v ≡ false). ⊎-elim
-            (λ (t : F j ≡ true). k .closed v r s j l (reach-free may F K v j (reach-row may F H v j o) t))
-            (λ (t : H j ≡ true). ⊎-elim
-            (λ (g : K j ≡ true). k .closed v r s j l (reach-held may F K v j (reach-row may F H v j o) g))
-            (λ (g : K j ≡ false). looked j l t (not-so (L j) (λ z. clash (k .fell j z) g)))
-            (holds? (K j)))
-            (reach-open may F H v j o))
-            (holds? (S v));
-        fell = λ j t. h .fell j (flipped-down f here j (k .fell j t));
-        tried = looked;
-      }
-
-  -- the loop ends: m may take no spare place, and no held place that was not tried
-  pub finish : {G : ℕ → Bool} → ((e : ℕ) → may m e ≡ true → F e ≡ true → ⊥) → ((e : ℕ) → may m e ≡ true → G e ≡ true → ⊥)
-      → Walk may F H P S G w m → Stuck (reach may F H) P S H G w m
-  finish {G} nofree noheld h = record {
-    grew = h .grew;
-    self = h .self;
-    holders = h .holders;
-    closed = λ v s p e l o. ⊎-elim
-        (λ (q : v ≡ m).
-        let o' : reach may F H m e ≡ true = rw q at o in
-        let r = reach-row may F H m e o' in
-        ⊎-elim
-        (λ (t : F e ≡ true). absurd (nofree e r t))
-        (λ (t : H e ≡ true). h .tried e l t (not-so (G e) (noheld e r)))
-        (reach-open may F H m e o'))
-        (λ (n : v ≡ m → ⊥). h .others v s p n e l o)
-        (same? v m);
-    fell = h .fell;
-    tried = h .tried;
-  }
+-- the loop ends: m may take no spare place, and no held place that was not tried
+pub finish : {may : ℕ → ℕ → Bool} {F H G : ℕ → Bool} {w : List ℕ} {m : ℕ} → ((e : ℕ) → may m e ≡ true → F e ≡ true → ⊥) → ((e : ℕ) → may m e ≡ true → G e ≡ true → ⊥)
+    → Walk may F H G w → Stuck may F H G w m
+finish {may} {F} {H} {G} nofree noheld h = record { fell = h .fell; self = λ e o. (not-so (F e) (nofree e o), not-so (G e) (noheld e o)); tried = h .tried }
 
 -- ---- the two ways to a chain
 
@@ -171,85 +108,77 @@ pub at-set : (w : List ℕ) (e m : ℕ) → e < length w → (k : ℕ) → (k �
 at-set w e m fits k = ⊎-elim (λ (q : k ≡ e). inr (q, rw q (getD-set-same w e m 0 fits))) (λ n. inl n) (same? k e)
 
 -- the place is spare
-pub give-spare : {ok : ℕ → ℕ → Bool} {P : ℕ → Bool} {w : List ℕ} {m : ℕ} (e : ℕ) → length w ≡ 32 → m < 32 → e < 32 → ok m e ≡ true
-    → 32 ≤ getD w e 0 → Gave ok P w m (set w e m)
+pub give-spare : {ok : ℕ → ℕ → Bool} {w : List ℕ} {m : ℕ} (e : ℕ) → length w ≡ 32 → m < 32 → e < 32 → ok m e ≡ true → 32 ≤ getD w e 0 → Served ok w m (set w e m)
 give-spare {w} {m} e size member within mine spare =
     let fits : e < length w = omega arith in
     record {
-      served = record {
-        size = length-set w e m;
-        more =
-            let a = cnt-set m w e m fits in
-            let b = miss (getD w e 0) m (λ q. omega arith) in
-            let c = hit m m refl in
-            omega arith;
-        others = λ v l n.
-            let a = cnt-set v w e m fits in
-            let b = miss (getD w e 0) v (λ q. omega arith) in
-            let c = miss m v (λ q. n (sym q)) in
-            omega arith;
-        moved = λ k. ⊎-elim (λ n. inl (getD-set-other w e k m 0 n)) (λ t. inr (rw (t .1, t .0) mine)) (at-set w e m fits k);
-        spare = λ k l. ⊎-elim (λ n. getD-set-other w e k m 0 n) (λ t. let z = t .1 in let never : ⊥ = omega arith in absurd never) (at-set w e m fits k);
-      };
-      kept = λ k l p. getD-set-other w e k m 0 (λ q. let z : getD w k 0 ≡ getD w e 0 = ap (λ j. getD w j 0) q in omega arith);
-      own = λ k o. getD-set-other w e k m 0 (λ q. let z : getD w k 0 ≡ getD w e 0 = ap (λ j. getD w j 0) q in omega arith);
+      size = length-set w e m;
+      more =
+          let a = cnt-set m w e m fits in
+          let b = miss (getD w e 0) m (λ q. omega arith) in
+          let c = hit m m refl in
+          omega arith;
+      others = λ v l n.
+          let a = cnt-set v w e m fits in
+          let b = miss (getD w e 0) v (λ q. omega arith) in
+          let c = miss m v (λ q. n (sym q)) in
+          omega arith;
+      moved = λ k. ⊎-elim (λ n. inl (getD-set-other w e k m 0 n)) (λ t. inr (rw (t .1, t .0) mine)) (at-set w e m fits k);
+      spare = λ k l. ⊎-elim (λ n. getD-set-other w e k m 0 n) (λ t. let z = t .1 in let never : ⊥ = omega arith in absurd never) (at-set w e m fits k);
     }
 
--- the place is a member's, for whom the call found another
-give-chain : {ok : ℕ → ℕ → Bool} {P S : ℕ → Bool} {w x : List ℕ} {m : ℕ} (e : ℕ) → length w ≡ 32 → m < 32 → ok m e ≡ true → e < 32
-    → ((v : ℕ) → P v ≡ true → S v ≡ true) → S m ≡ true → S (getD w e 0) ≡ false → Gave ok S w (getD w e 0) x → Gave ok P w m (set x e m)
-give-chain {S} {w} {x} {m} e size member mine within grew self new g =
-    let fits-x : e < length x = let a = g .served .size in omega arith in
-    let not-mine : getD w e 0 ≡ m → ⊥ = λ q. clash self (rw q at new) in
-    let not-here : (k : ℕ) → S (getD w k 0) ≡ true → k ≡ e → ⊥ = λ k s q. clash (rw q at s) new in
-    let there : getD x e 0 ≡ getD w e 0 = g .own e refl in
+-- the place is a member's, for whom the call found another and left this one as it was
+give-chain : {ok : ℕ → ℕ → Bool} {w x : List ℕ} {m : ℕ} (e : ℕ) → length w ≡ 32 → m < 32 → ok m e ≡ true → e < 32
+    → getD x e 0 ≡ getD w e 0 → Served ok w (getD w e 0) x → Served ok w m (set x e m)
+give-chain {ok} {w} {x} {m} e size member mine within there s =
+    let fits : e < length x = let a = s .size in omega arith in
     record {
-      served = record {
-        size = length-set x e m ∙ g .served .size;
-        more =
-            let a = cnt-set m x e m fits-x in
-            let b = miss (getD x e 0) m (λ q. not-mine (sym there ∙ q)) in
-            let c = hit m m refl in
-            let d = g .served .others m member (λ q. not-mine (sym q)) in
-            omega arith;
-        others = λ v l n.
-            let a = cnt-set v x e m fits-x in
-            let c = miss m v (λ q. n (sym q)) in
-            ⊎-elim
-            (λ (q : v ≡ getD w e 0).
-            let b = hit (getD x e 0) v (there ∙ sym q) in
-            let d : cnt v x ≡ cnt v w + 1 = rw q (g .served .more) in
-            omega arith)
-            (λ (q : v ≡ getD w e 0 → ⊥).
-            let b = miss (getD x e 0) v (λ r. q (sym r ∙ there)) in
-            let d = g .served .others v l q in
-            omega arith)
-            (same? v (getD w e 0));
-        moved = λ k. ⊎-elim
-            (λ n. ⊎-elim (λ q. inl (getD-set-other x e k m 0 n ∙ q)) (λ o. inr (rw (getD-set-other x e k m 0 n) o)) (g .served .moved k))
-            (λ t. inr (rw (t .1, t .0) mine))
-            (at-set x e m fits-x k);
-        spare = λ k l. ⊎-elim
-            (λ n. let q = getD-set-other x e k m 0 n in q ∙ g .served .spare k (rw q at l))
-            (λ t. let z = t .1 in let never : ⊥ = omega arith in absurd never)
-            (at-set x e m fits-x k);
-      };
-      kept = λ k l p.
-          let s = grew _ p in
-          getD-set-other x e k m 0 (not-here k s) ∙ g .kept k l s;
-      own = λ k o.
-          let s : S (getD w k 0) ≡ true = rw o self in
-          getD-set-other x e k m 0 (not-here k s) ∙ g .kept k (rw o member) s;
+      size = length-set x e m ∙ s .size;
+      more =
+          let a = cnt-set m x e m fits in
+          let c = hit m m refl in
+          ⊎-elim
+          (λ (q : m ≡ getD w e 0).
+          let b = hit (getD x e 0) m (there ∙ sym q) in
+          let d : cnt m x ≡ cnt m w + 1 = subst (λ (v : ℕ). cnt v x ≡ cnt v w + 1) (sym q) (s .more) in
+          omega arith)
+          (λ (q : m ≡ getD w e 0 → ⊥).
+          let b = miss (getD x e 0) m (λ r. q (sym r ∙ there)) in
+          let d = s .others m member q in
+          omega arith)
+          (same? m (getD w e 0));
+      others = λ v l n.
+          let a = cnt-set v x e m fits in
+          let c = miss m v (λ q. n (sym q)) in
+          ⊎-elim
+          (λ (q : v ≡ getD w e 0).
+          let b = hit (getD x e 0) v (there ∙ sym q) in
+          let d : cnt v x ≡ cnt v w + 1 = subst (λ (u : ℕ). cnt u x ≡ cnt u w + 1) (sym q) (s .more) in
+          omega arith)
+          (λ (q : v ≡ getD w e 0 → ⊥).
+          let b = miss (getD x e 0) v (λ r. q (sym r ∙ there)) in
+          let d = s .others v l q in
+          omega arith)
+          (same? v (getD w e 0));
+      moved = λ k. ⊎-elim
+          (λ n. ⊎-elim (λ q. inl (getD-set-other x e k m 0 n ∙ q)) (λ o. inr (rw (getD-set-other x e k m 0 n) o)) (s .moved k))
+          (λ t. inr (rw (t .1, t .0) mine))
+          (at-set x e m fits k);
+      spare = λ k l. ⊎-elim
+          (λ n. let q = getD-set-other x e k m 0 n in q ∙ s .spare k (rw q at l))
+          (λ t. let z = t .1 in let never : ⊥ = omega arith in absurd never)
+          (at-set x e m fits k);
     }
 
 -- the same in the loop, where fewer places were left for the call
-pub turn-gave : {may : ℕ → ℕ → Bool} {F H P S G K : ℕ → Bool} {w x : List ℕ} {m : ℕ} (e : ℕ) → length w ≡ 32 → m < 32 → may m e ≡ true → e < 32
-    → Walk may F H P S G w m → Flipped G e K → G e ≡ true → S (getD w e 0) ≡ false → Gave (reach may F K) S w (getD w e 0) x
-    → Gave (reach may F H) P w m (set x e m)
-turn-gave {may} {F} {H} {P} {S} {G} {K} {w} {x} {m} e size member row low h f here new g =
+pub turn-served : {may : ℕ → ℕ → Bool} {F H G K : ℕ → Bool} {w x : List ℕ} {m : ℕ} (e : ℕ) → Ready F H w m → may m e ≡ true → e < 32
+    → Walk may F H G w → Flipped G e K → G e ≡ true → Served (reach may F K) w (getD w e 0) x → Served (reach may F H) w m (set x e m)
+turn-served {may} {F} {H} {G} {K} {w} {x} {m} e r row low h f here s =
     let down : (j : ℕ) → K j ≡ true → H j ≡ true = λ j t. h .fell j (flipped-down f here j t) in
-    give-chain e size member (reach-held may F H m e row (h .fell e here)) low (h .grew) (h .self) new
-    (record { served = served-wider (reach-wider may F K H down) (g .served); kept = g .kept; own = g .own })
+    let held = r .held e (h .fell e here) in
+    let not-free : F e ≡ false = not-so (F e) (λ t. let z = r .free e t in omega arith) in
+    give-chain e (r .size) (r .member) (reach-held may F H m e row (h .fell e here)) low
+    (served-kept may F K s e not-free (flipped-out f here)) (served-wider (reach-wider may F K H down) s)
 
 -- ---- of the spare places a chain takes one
 pub filled-spare : {F : ℕ → Bool} {w : List ℕ} {m : ℕ} (e : ℕ) → length w ≡ 32 → m < 32 → e < 32 → F e ≡ true → Filled F w (set w e m) e
@@ -268,108 +197,104 @@ filled-chain {F} {w} {x} {t} e m free held f =
       others = λ i n l. let q = getD-set-other x e i m 0 (not-here i l) in let h = f .others i n l in omega arith;
     }
 
--- what `settle` gives where a chain was found
-pub settled-found : {may : ℕ → ℕ → Bool} {F H P S G : ℕ → Bool} {w x y : List ℕ} {m s t : ℕ} {found : Bool} → (found ≡ true) × (x ≡ y) × (s ≡ t)
-    → Gave (reach may F H) P w m y → Filled F w y t → Settled may F H P w m found s S G x
-settled-found {may} {F} {H} {P} {S} {G} {w} {x} {y} {m} {s} {t} (f, q, r) g h = record {
-  gave = λ _. subst (λ (v : List ℕ). Gave (reach may F H) P w m v) (sym q) g;
-  filled = λ _. subst₂ (λ (v : List ℕ) (i : ℕ). Filled F w v i) (sym q) (sym r) h;
-  stuck = λ z. absurd (clash f z);
-  same = λ z. absurd (clash f z);
-}
+-- what `settle` gives where a chain was found, and where there is none
+pub settled-found : {may : ℕ → ℕ → Bool} {F H G : ℕ → Bool} {w x : List ℕ} {m r : ℕ} → r < 32 → Served (reach may F H) w m x → Filled F w x r → Settled may F H w m r G x
+settled-found low s f = record { served = λ _. s; filled = λ _. f; stuck = λ z. absurd (omega arith); same = λ z. absurd (omega arith); none = λ z. absurd (omega arith) }
 
--- ---- the places of a piece, one by one
-pub opened-none : {w : List ℕ} {from : ℕ} {F H : ℕ → Bool} → ((e : ℕ) → F e ≡ false) → ((e : ℕ) → H e ≡ false) → Opened w from from F H
-opened-none {w} {from} {F} {H} noF noH = record {
-  free = λ e f. absurd (clash f (noF e));
-  held = λ e f. absurd (clash f (noH e));
-  all = λ e b. let x = between-from from from e b in let y = between-to from from e b in absurd (omega arith);
-}
+pub settled-none : {may : ℕ → ℕ → Bool} {F H G : ℕ → Bool} {w x : List ℕ} {m : ℕ} → Stuck may F H G w m → x ≡ w → Settled may F H w m 255 G x
+settled-none k q = record { served = λ z. absurd (omega arith); filled = λ z. absurd (omega arith); stuck = λ z. k; same = λ z. q; none = λ z. refl }
 
+-- ---- the spare places of a piece, one by one
 between-wider : (from e j : ℕ) → between from e j ≡ true → between from (e + 1) j ≡ true
 between-wider from e j b = let x = between-from from e j b in let y = between-to from e j b in between-in from (e + 1) j x (omega arith)
 
 between-less : (from e j : ℕ) → (j ≡ e → ⊥) → between from (e + 1) j ≡ true → between from e j ≡ true
 between-less from e j n b = let x = between-from from (e + 1) j b in let y = between-to from (e + 1) j b in between-in from e j x (omega arith)
 
-module _ {w : List ℕ} {from e : ℕ} {F H S : ℕ → Bool} (begun : from ≤ e) (h : Opened w from e F H) where
-  pub opened-free : Plus F e S → 32 ≤ getD w e 0 → Opened w from (e + 1) S H
-  opened-free p l = record {
+pub spares-none : {w : List ℕ} {from : ℕ} {F : ℕ → Bool} → ((e : ℕ) → F e ≡ false) → Spares w from from F
+spares-none {w} {from} {F} none = record {
+  free = λ e f. absurd (clash f (none e));
+  held = λ e b. let x = between-from from from e b in let y = between-to from from e b in absurd (omega arith);
+}
+
+module _ {w : List ℕ} {from e : ℕ} {F : ℕ → Bool} (begun : from ≤ e) (h : Spares w from e F) where
+  pub spares-free : {S : ℕ → Bool} → Plus F e S → 32 ≤ getD w e 0 → Spares w from (e + 1) S
+  spares-free {S} p l = record {
     free = λ j f. ⊎-elim
         (λ (q : j ≡ e). (rw q (between-in from (e + 1) e begun (omega arith)), rw q l))
         (λ (n : j ≡ e → ⊥). let t = h .free j (sym (p .other j n) ∙ f) in (between-wider from e j (t .0), t .1))
         (same? j e);
-    held = λ j f. let t = h .held j f in (between-wider from e j (t .0), t .1);
-    all = λ j b. ⊎-elim
-        (λ (q : j ≡ e). or-left (S j) (H j) (rw q (p .self)))
-        (λ (n : j ≡ e → ⊥). ap (λ t. t || H j) (p .other j n) ∙ h .all j (between-less from e j n b))
+    held = λ j b f. ⊎-elim
+        (λ (q : j ≡ e). absurd (clash (subst (λ (i : ℕ). S i ≡ true) (sym q) (p .self)) f))
+        (λ (n : j ≡ e → ⊥). h .held j (between-less from e j n b) (sym (p .other j n) ∙ f))
         (same? j e);
   }
 
-  pub opened-held : Plus H e S → getD w e 0 < 32 → Opened w from (e + 1) F S
-  opened-held p l = record {
+  pub spares-held : getD w e 0 < 32 → Spares w from (e + 1) F
+  spares-held l = record {
     free = λ j f. let t = h .free j f in (between-wider from e j (t .0), t .1);
-    held = λ j f. ⊎-elim
-        (λ (q : j ≡ e). (rw q (between-in from (e + 1) e begun (omega arith)), rw q l))
-        (λ (n : j ≡ e → ⊥). let t = h .held j (sym (p .other j n) ∙ f) in (between-wider from e j (t .0), t .1))
-        (same? j e);
-    all = λ j b. ⊎-elim
-        (λ (q : j ≡ e). or-right (F j) (S j) (rw q (p .self)))
-        (λ (n : j ≡ e → ⊥). ap (λ t. F j || t) (p .other j n) ∙ h .all j (between-less from e j n b))
-        (same? j e);
+    held = λ j b f. ⊎-elim (λ (q : j ≡ e). rw q l) (λ (n : j ≡ e → ⊥). h .held j (between-less from e j n b) f) (same? j e);
   }
+
+-- a byte that a chain left spare was spare
+pub served-held : {ok : ℕ → ℕ → Bool} {w x : List ℕ} {m : ℕ} → Served ok w m x → (i : ℕ) → getD w i 0 < 32 → getD x i 0 < 32
+served-held {ok} {w} {x} s i l = ⊎-elim (λ (z : getD x i 0 < 32). z) (λ (z : 32 ≤ getD x i 0). let y = s .spare i z in omega arith) (below (getD x i 0) 32)
 
 -- one place was given away
-pub opened-filled : {w x : List ℕ} {from to t m : ℕ} {F H E G : ℕ → Bool} {ok : ℕ → ℕ → Bool} → Opened w from to F H → Filled F w x t → Served ok w m x → Flipped F t E → Plus H t G → Opened x from to E G
-opened-filled {w} {x} {from} {to} {t} {m} {F} {H} {E} {G} o f s flip plus = record {
+pub spares-filled : {w x : List ℕ} {from to t m : ℕ} {F E : ℕ → Bool} {ok : ℕ → ℕ → Bool} → Spares w from to F → Filled F w x t → Served ok w m x → Flipped F t E → Spares x from to E
+spares-filled {w} {x} {from} {to} {t} {m} {F} {E} o f s flip = record {
   free = λ i e. ⊎-elim
       (λ (q : i ≡ t). absurd (clash (subst (λ (j : ℕ). E j ≡ true) q e) (flipped-out flip (f .inside))))
       (λ (n : i ≡ t → ⊥). let h = o .free i (sym (flip .other i n) ∙ e) in (h .0, f .others i n (h .1)))
       (same? i t);
-  held = λ i g. ⊎-elim
-      (λ (q : i ≡ t). (subst (λ (j : ℕ). between from to j ≡ true) (sym q) (o .free t (f .inside) .0), subst (λ (j : ℕ). getD x j 0 < 32) (sym q) (f .here)))
-      (λ (n : i ≡ t → ⊥).
-      let h = o .held i (sym (plus .other i n) ∙ g) in (
-        h .0,
-        ⊎-elim
-            (λ (l : getD x i 0 < 32). l)
-            (λ (l : 32 ≤ getD x i 0). let z = s .spare i l in let y = h .1 in omega arith)
-            (below (getD x i 0) 32),
-      ))
-      (same? i t);
-  all = λ i b. ⊎-elim
-      (λ (q : i ≡ t). or-right (E i) (G i) (subst (λ (j : ℕ). G j ≡ true) (sym q) (plus .self)))
-      (λ (n : i ≡ t → ⊥). ap (λ (v : Bool). v || G i) (flip .other i n) ∙ ap (λ (v : Bool). F i || v) (plus .other i n) ∙ o .all i b)
+  held = λ i b e. ⊎-elim
+      (λ (q : i ≡ t). subst (λ (j : ℕ). getD x j 0 < 32) (sym q) (f .here))
+      (λ (n : i ≡ t → ⊥). served-held s i (o .held i b (sym (flip .other i n) ∙ e)))
       (same? i t);
 }
 
--- what `settle` asks of the places of a piece
-pub opened-ready : {w : List ℕ} {from to m : ℕ} {F H P : ℕ → Bool} → m < 32 → P m ≡ false → Opened w from to F H → Ready F H P w m
-opened-ready member fresh o = record { member = member; fresh = fresh; free = λ e f. o .free e f .1; held = λ e f. o .held e f .1 }
+-- the places after e
+pub spares-after : {w : List ℕ} {e to : ℕ} (free after : ℕ) → ((i : ℕ) → bit after i ≡ between (e + 1) to i) → Spares w e to (bit free) → Spares w (e + 1) to (bit (bitAnd free after))
+spares-after {w} {e} {to} free after p o = record {
+  free = λ i f. let t = and-bits free after i f in (sym (p i) ∙ t .1, o .free i (t .0) .1);
+  held = λ i b f.
+      let x = between-from (e + 1) to i b in
+      o .held i (between-in e to i (omega arith) (between-to (e + 1) to i b))
+      (not-so (bit free i) (λ t. clash (bit-and free after i ∙ both (bit free i) (bit after i) t (p i ∙ b)) f));
+}
 
--- ---- one call of `settle`, with nobody tried and the places of a piece
-pub within-reach : (may : ℕ → ℕ → Bool) (from to : ℕ) (F H : ℕ → Bool) (v e : ℕ) → (between from to e ≡ true → (F e || H e) ≡ true) → within may from to v e ≡ true → reach may F H v e ≡ true
-unfolding within reach
-within-reach may from to F H v e all o = both (may v e) (F e || H e) (and-left (may v e) (between from to e) o) (all (and-right (may v e) (between from to e) o))
+-- ---- the held places of a piece: those that are not spare
+module _ {w : List ℕ} {from to : ℕ} (piece free : ℕ) (o : Spares w from to (bit free)) (p : (e : ℕ) → bit piece e ≡ between from to e) where
+  held-is : (e : ℕ) → bit (bitXor piece free) e ≡ odd (bit free e) (between from to e)
+  held-is e = bit-xor piece free e ∙ ap (λ (t : Bool). odd (bit free e) t) (p e)
 
-reach-within : (may : ℕ → ℕ → Bool) (from to : ℕ) (F H : ℕ → Bool) (v e : ℕ) → (F e ≡ true → between from to e ≡ true) → (H e ≡ true → between from to e ≡ true)
-    → reach may F H v e ≡ true → within may from to v e ≡ true
-unfolding within
-reach-within may from to F H v e free held o = both (may v e) (between from to e) (reach-row may F H v e o) (⊎-elim free held (reach-open may F H v e o))
+  pub held-inv : (e : ℕ) → bit (bitXor piece free) e ≡ true → (between from to e ≡ true) × (bit free e ≡ false) × (getD w e 0 < 32)
+  held-inv e h = ⊎-elim
+      (λ (f : bit free e ≡ true).
+      let b = o .free e f .0 in
+      absurd (clash h (held-is e ∙ ap (λ (t : Bool). odd t (between from to e)) f ∙ ap not b)))
+      (λ (f : bit free e ≡ false).
+      let b : between from to e ≡ true = sym (ap (λ (t : Bool). odd t (between from to e)) f) ∙ sym (held-is e) ∙ h in
+      (b, f, o .held e b f))
+      (holds? (bit free e))
+
+  pub held-in : (e : ℕ) → between from to e ≡ true → bit free e ≡ false → bit (bitXor piece free) e ≡ true
+  held-in e b f = held-is e ∙ ap (λ (t : Bool). odd t (between from to e)) f ∙ b
+
+  -- a place of the piece is spare or held
+  pub open-in : (e : ℕ) → between from to e ≡ true → (bit free e ≡ true) ⊎ (bit (bitXor piece free) e ≡ true)
+  open-in e b = ⊎-elim inl (λ (f : bit free e ≡ false). inr (held-in e b f)) (holds? (bit free e))
+
+  -- what a search asks
+  pub ready : {m : ℕ} → length w ≡ 32 → m < 32 → Ready (bit free) (bit (bitXor piece free)) w m
+  ready size member = record { member = member; size = size; free = λ e f. o .free e f .1; held = λ e h. held-inv e h .2 }
 
 -- what is open to a chain is of the piece
-pub served-within : (may : ℕ → ℕ → Bool) {from to : ℕ} {F H : ℕ → Bool} {w x : List ℕ} {m : ℕ} → Opened w from to F H → Served (reach may F H) w m x → Served (within may from to) w m x
-served-within may {from} {to} {F} {H} h = served-wider (λ v e. reach-within may from to F H v e (λ f. h .free e f .0) (λ f. h .held e f .0))
+pub within-both : (may : ℕ → ℕ → Bool) (from to v e : ℕ) → may v e ≡ true → between from to e ≡ true → within may from to v e ≡ true
+unfolding within
+within-both may from to v e = both (may v e) (between from to e)
 
-pub placed : {may : ℕ → ℕ → Bool} {from to : ℕ} {F H P S G : ℕ → Bool} {w x : List ℕ} {m t : ℕ} {found : Bool} → ((v : ℕ) → P v ≡ false) → Opened w from to F H
-    → Settled may F H P w m found t S G x → Placed (within may from to) w m found x
-placed {may} {from} {to} {F} {H} {P} {S} {G} {w} {x} {m} new h r = record {
-  served = λ q. served-within may h (r .gave q .served);
-  blocked = λ q. let s = r .stuck q in record {
-    group = S;
-    self = s .self;
-    holders = λ v t. s .holders v t (new v);
-    closed = λ v t e l o. s .closed v t (new v) e l (within-reach may from to F H v e (h .all e) o);
-  };
-  same = r .same;
-}
+pub served-within : (may : ℕ → ℕ → Bool) (from to : ℕ) (F H : ℕ → Bool) {w x : List ℕ} {m : ℕ} → ((e : ℕ) → F e ≡ true → between from to e ≡ true) → ((e : ℕ) → H e ≡ true → between from to e ≡ true)
+    → Served (reach may F H) w m x → Served (within may from to) w m x
+served-within may from to F H free held =
+    served-wider (λ v e o. within-both may from to v e (reach-row may F H v e o) (⊎-elim (free e) (held e) (reach-open may F H v e o)))

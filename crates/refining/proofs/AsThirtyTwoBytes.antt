@@ -1,7 +1,7 @@
 -- Assignments as 32 bytes: the members served one by one, and one exchange. Assumes nothing.
 use mathlib.Core.Path.{_≡_, refl, sym, ap, _∙_, subst}
 use mathlib.Core.Logic.{_⊎_, inl, inr, ⊎-elim}
-use mathlib.Core.Bool.{Bool, true, false, not}
+use mathlib.Core.Bool.{Bool, true, false, not, _&&_}
 use mathlib.Core.List.{List}
 use Prim.Native.Nat.{ℕ, _+_, _≤_, _<_}
 use native.Mathlib.Omega.{arith}
@@ -9,15 +9,15 @@ use lib.Dec.{eqb}
 use lib.ListN.{length, getD, set, replicate, length-set, length-replicate, getD-replicate}
 use lib.Seq.{getD-set-same, getD-set-other}
 use Rattle.facts.specs.Counting.{oneIf, between, cnt}
-use Rattle.masks.specs.Masks.{Flipped}
+use Rattle.masks.specs.Masks.{Plus, Flipped}
 use Rattle.blocks.specs.Assignment.{Short}
-use Rattle.chains.specs.Chain.{within, Served, Blocked}
+use Rattle.chains.specs.Chain.{within, Spares, Served, Shut, Stuck, Blocked}
 use Rattle.refining.specs.AsBytes.{fits, Partly, Dealt}
-use Rattle.refining.specs.Refine.{Tries, Asks}
-use Rattle.facts.proofs.Cases.{same?, below, holds?, clash, and-left, and-right, both, hit, miss}
+use Rattle.refining.specs.Refine.{Tries, Around, Moves}
+use Rattle.facts.proofs.Cases.{same?, below, holds?, clash, not-so, and-left, and-right, both, hit, miss}
 use Rattle.facts.proofs.Spans.{between-in, between-from, between-to}
-use Rattle.facts.proofs.Counting.{cnt-set, cnt-at, cnt-place, cnt-replicate}
-use Rattle.chains.proofs.Blocked.{blocked-never, blocked-short}
+use Rattle.facts.proofs.Counting.{cnt-set, cnt-at, cnt-place, cnt-two, cnt-replicate}
+use Rattle.chains.proofs.Blocked.{blocked-short}
 
 -- ---- what fits
 pub within-may : (may : ℕ → ℕ → Bool) (from to v e : ℕ) → within may from to v e ≡ true → may v e ≡ true
@@ -167,11 +167,11 @@ module _ {may : ℕ → ℕ → Bool} {first k from to : ℕ} {w : List ℕ} {U 
             (below (cnt v w) 1)
 
 -- ---- m takes e, and its old place p, after e, is spare
-abbrev swap : List ℕ → ℕ → ℕ → ℕ → List ℕ
+abbrev pub swap : List ℕ → ℕ → ℕ → ℕ → List ℕ
 swap w p e m = set (set w p 255) e m
 
 module _ (w : List ℕ) (p e m : ℕ) (size : length w ≡ 32) (later : e < p) (low : p < 32) (there : getD w p 0 ≡ m) where
-  swap-size : length (swap w p e m) ≡ 32
+  pub swap-size : length (swap w p e m) ≡ 32
   swap-size = length-set (set w p 255) e m ∙ length-set w p 255 ∙ size
 
   swap-here : getD (swap w p e m) e 0 ≡ m
@@ -206,7 +206,74 @@ module _ (w : List ℕ) (p e m : ℕ) (size : length w ≡ 32) (later : e < p) (
       (same? i p))
       (same? i e)
 
+  -- what is spare after e then
+  pub swap-spares : (to : ℕ) {F S : ℕ → Bool} → p < to → Plus F p S → Spares w (e + 1) to F → Spares (swap w p e m) (e + 1) to S
+  swap-spares to {F} {S} early plus o =
+      let not-e : (i : ℕ) → between (e + 1) to i ≡ true → i ≡ e → ⊥ = λ i b q. let z = between-from (e + 1) to i b in omega arith in
+      record {
+        free = λ i s. ⊎-elim
+            (λ (q : i ≡ p). subst (λ (j : ℕ). (between (e + 1) to j ≡ true) × (32 ≤ getD (swap w p e m) j 0)) (sym q) (
+              between-in (e + 1) to p (omega arith) early,
+              (let z = swap-old in omega arith),
+            ))
+            (λ (n : i ≡ p → ⊥). let f = o .free i (sym (plus .other i n) ∙ s) in let l = f .1 in let z = swap-other i (not-e i (f .0)) n in (f .0, omega arith))
+            (same? i p);
+        held = λ i b s. ⊎-elim
+            (λ (q : i ≡ p). absurd (clash (subst (λ (j : ℕ). S j ≡ true) (sym q) (plus .self)) s))
+            (λ (n : i ≡ p → ⊥). let l = o .held i b (sym (plus .other i n) ∙ s) in let z = swap-other i (not-e i b) n in omega arith)
+            (same? i p);
+      }
+
+  -- m, who stands once, stands at p only
+  once-there : (i : ℕ) → i < 32 → (i ≡ p → ⊥) → getD w i 0 ≡ m → cnt m w ≤ 1 → ⊥
+  once-there i l n q once =
+      let two : (a b : ℕ) → a < b → b < 32 → getD w a 0 ≡ m → getD w b 0 ≡ m → ⊥ = λ a b less short x y.
+      let z : 2 ≤ cnt m w = subst (λ (v : ℕ). 2 ≤ cnt v w) y (cnt-two w a b less (omega arith) (x ∙ sym y)) in
+      omega arith in
+      ⊎-elim (λ (k : i < p). two i p k low q there) (λ (k : p ≤ i). two p i (omega arith) l there q) (below i p)
+
+  -- c can have another place: a search that is stuck would be a set around c without a spare place and without that of m
+  pub swap-never : (to : ℕ) → to ≤ 32 → {may : ℕ → ℕ → Bool} {F S H G : ℕ → Bool} {c : ℕ} → Plus F p S → Spares w (e + 1) to F
+      → ((i : ℕ) → between (e + 1) to i ≡ true → (S i ≡ true) ⊎ (H i ≡ true)) → ((i : ℕ) → H i ≡ true → (between (e + 1) to i ≡ true) × (S i ≡ false))
+      → cnt m w ≤ 1 → Moves may (e + 1) to w c m → Stuck may S H G (swap w p e m) c → ⊥
+  swap-never to end {may} {F} {S} {H} {G} {c} plus o all-open held once moves k =
+      let Q : ℕ → Bool = λ i. H i && not (G i) in
+      let not-p : (i : ℕ) → H i ≡ true → i ≡ p → ⊥ = λ i h q. clash (plus .self) (subst (λ (j : ℕ). S j ≡ false) q (held i h .1)) in
+      let shut : (v : ℕ) → Shut may S G v → (i : ℕ) → within may (e + 1) to v i ≡ true → Q i ≡ true = λ v z i t.
+      let s = z i (within-may may (e + 1) to v i t) in
+      ⊎-elim
+      (λ (f : S i ≡ true). absurd (clash f (s .0)))
+      (λ (h : H i ≡ true). both (H i) (not (G i)) h (ap not (s .1)))
+      (all-open i (within-piece may (e + 1) to v i t)) in
+      let around : Around may (e + 1) to w c Q = record {
+        begins = shut c (k .self);
+        goes = λ i b l q.
+            let h = and-left (H i) (not (G i)) q in
+            let z = between-from (e + 1) to i b in
+            shut (getD w i 0) (subst (λ (v : ℕ). Shut may S G v) (swap-other i (λ r. omega arith) (not-p i h))
+            (k .tried i h (not-so (G i) (λ g. clash (and-right (H i) (not (G i)) q) (ap not g)))));
+      } in
+      let ends : (i : ℕ) → Q i ≡ true → between (e + 1) to i ≡ true → (32 ≤ getD w i 0) ⊎ (getD w i 0 ≡ m) → ⊥ = λ i q b.
+      let h = and-left (H i) (not (G i)) q in
+      let t = between-to (e + 1) to i b in
+      ⊎-elim
+      (λ (l : 32 ≤ getD w i 0). ⊎-elim
+      (λ (f : F i ≡ true). clash (plus .other i (not-p i h) ∙ f) (held i h .1))
+      (λ (f : F i ≡ false). let z = o .held i b f in omega arith)
+      (holds? (F i)))
+      (λ (z : getD w i 0 ≡ m). once-there i (omega arith) (not-p i h) z once) in
+      let found = moves Q around in
+      ends (found .0) (found .1) (found .2) (found .3)
+
 -- ---- one exchange
+-- w is an assignment, and m another member of the block that may take e
+pub record Asks (may : ℕ → ℕ → Bool) (first k from to : ℕ) (w : List ℕ) (e m : ℕ) : Type 0 where
+  pub dealt : Dealt may first k from to w
+  pub after : from ≤ e
+  pub member : between first (first + k) m ≡ true
+  pub may-take : may m e ≡ true
+  pub other : getD w e 0 ≡ m → ⊥
+
 module _ {may : ℕ → ℕ → Bool} {first k from to : ℕ} {w : List ℕ} {e m : ℕ} (block : first + k ≤ 32) (ask : Asks may first k from to w e m) (before : e < to) (end : to ≤ 32) where
   ask-fits : fits may first k from to m e ≡ true
   ask-fits = fits-in may first k from to m e (ask .member) (within-in may from to m e (ask .may-take) (ask .after) before)
@@ -270,23 +337,3 @@ module _ {may : ℕ → ℕ → Bool} {first k from to : ℕ} {w : List ℕ} {e 
             agrees = λ i l. as-x i (omega arith) ∙ swap-before w p e m (ask .dealt .size) later low there i l;
             takes = as-x e (omega arith) ∙ swap-here w p e m (ask .dealt .size) later low there;
           }
-
-      -- its owner cannot be served by a place after e
-      pub exchange-blocked : Blocked (within may (e + 1) to) (swap w p e m) (getD w e 0) → (a : List ℕ) → Tries may first k from to w e m a → ⊥
-      exchange-blocked b a t =
-          let size = ask .dealt .size in
-          let once-a : (v : ℕ) → between first (first + k) v ≡ true → 1 ≤ cnt v a = λ v i. let o = t .dealt .once v (between-from first (first + k) v i) (between-to first (first + k) v i) in omega arith in
-          blocked-never b (swap-size w p e m size later low there) held owner-left
-          (λ v l g. let c = swap-cnt w p e m size later low there v (omega arith) in let o = dealt-one (ask .dealt) v (omega arith) in omega arith)
-          a (t .dealt .size)
-          (λ i l z. ⊎-elim
-          (λ (q : i < e). inl (t .agrees i q ∙ sym (swap-before w p e m size later low there i q)))
-          (λ (q : e ≤ i). ⊎-elim
-          (λ (r : i ≡ e). inl (ap (λ (j : ℕ). getD a j 0) r ∙ t .takes ∙ sym (swap-here w p e m size later low there) ∙ ap (λ (j : ℕ). getD (swap w p e m) j 0) (sym r)))
-          (λ (r : i ≡ e → ⊥).
-          let f = fits-within may first k from to _ i (dealt-fits (t .dealt) i l (omega arith)) in
-          inr (within-in may (e + 1) to _ i (within-may may from to _ i f) (omega arith) (between-to from to i (within-piece may from to _ i f))))
-          (same? i e))
-          (below i e))
-          (once-a (getD w e 0) owner-block)
-          (λ v l n. once-a v (let c = swap-cnt w p e m size later low there v (omega arith) in dealt-block (ask .dealt) v (omega arith) (omega arith)))

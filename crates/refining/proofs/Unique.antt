@@ -1,9 +1,9 @@
--- The contract of `refine` allows one result, where the list that is given is an assignment. Stated of the contract itself, as the check reads it. Assumes nothing.
+-- The contract of `refine` allows one result. Stated of the contract itself, as the check reads it. Assumes nothing.
 use mathlib.Core.Path.{_≡_, sym, _∙_}
 use mathlib.Core.Logic.{_⊎_, ⊎-elim}
 use mathlib.Core.Bool.{Bool}
 use mathlib.Core.List.{List}
-use Prim.Native.Nat.{ℕ, _+_, _≤_, _<_}
+use Prim.Native.Nat.{ℕ, _≤_, _<_}
 use native.Mathlib.Omega.{arith}
 use lib.Seq.{ext-getD}
 use borrow.Fn.Kinds.{Dens, resT, endedOf}
@@ -11,8 +11,6 @@ use contract.Lifetimes.{Lfts}
 use denote.Triple.Clauses.{AtExit}
 use Rattle.facts.proofs.Cases.{below}
 use Rattle.facts.proofs.Spans.{between-past}
-use Rattle.rows.specs.Rows.{picks}
-use Rattle.refining.specs.AsBytes.{Dealt}
 use Rattle.refining.specs.Refine.{Agrees, Sooner, Leads}
 use Rattle.refining.proofs.Refinement.{dealt-outside}
 use Rattle.refining.proofs.refine.Reads as reads
@@ -42,6 +40,5 @@ leads-same {may} {first} {k} {from} {to} w v p q = ext-getD 0 w v (p .dealt .siz
     dealt-outside (p .dealt) i (omega arith) (between-past from to i h) ∙ sym (dealt-outside (q .dealt) i (omega arith) (between-past from to i h)))
     (below i to))
 
-pub refine-unique : (κs : Lfts 1) (a : Dens κs kinds.ps) (r r' : resT kinds.r κs .Denot) (s s' : AtExit (endedOf 1 kinds.ps kinds.r) κs) (first k : ℕ) → first + k ≤ 32
-    → Dealt (picks (a .0 .now)) first k (a .1 .0) (a .1 .1 .0) (a .1 .1 .1 .0) → reads.Post κs a r s → reads.Post κs a r' s' → r ≡ r'
-refine-unique κs a r r' s s' first k block d p q = leads-same r r' (p first k block d) (q first k block d)
+pub refine-unique : (κs : Lfts 2) (a : Dens κs kinds.ps) (r r' : resT kinds.r κs .Denot) (s s' : AtExit (endedOf 2 kinds.ps kinds.r) κs) → reads.Post κs a r s → reads.Post κs a r' s' → r ≡ r'
+refine-unique κs a r r' s s' p q = leads-same r r' p q

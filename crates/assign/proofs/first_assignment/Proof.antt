@@ -51,7 +51,12 @@ returns-2 c =
     (answer-same (turned-says (called .before .before .turned .ensures)) (answer-none (p .0) (p .1) (p .2) (s .blank f) (s .short f)))
 
 refine-requires : tie.Need-refine-requires
-refine-requires c κs = let p = c .before .before .before .before .before .before .before .before .before .before .before .pre in (p .1, p .2)
+refine-requires c κs =
+    let else2 = c .before .before in
+    let called = else2 .before .before in
+    let turning = called .before .before in
+    let p = turning .before .before .before .before .before .pre in
+    (p .0, p .1, p .2, turning .turned .ensures, saturated called .dealt (not-false _ (else2 .if2 .left)))
 
 returns-3 : tie.Need-returns-3
 returns-3 c =
@@ -59,8 +64,7 @@ returns-3 c =
     let called = else2 .before .before in
     let turning = called .before .before in
     let p = turning .before .before .before .before .before .pre in
-    let dealt = saturated called .dealt (not-false _ (else2 .if2 .left)) in
-    answer-same (turned-says (turning .turned .ensures)) (answer-found (p .0) (p .1) (p .2) (c .refine .ensures _ _ (p .0) dealt))
+    answer-same (turned-says (turning .turned .ensures)) (answer-found (p .0) (p .1) (p .2) (c .refine .ensures))
 
 pub first-assignment-spec : {M : Type 1} → statement M
 first-assignment-spec = tie.close (tie.spec quick-requires returns turned-requires saturate-requires returns-2 refine-requires returns-3)

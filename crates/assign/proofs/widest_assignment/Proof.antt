@@ -2,7 +2,6 @@
 -- Assumes nothing.
 use native.Mathlib.Omega.{arith}
 use borrow.Author.Needs.{needs}
-use Rattle.facts.proofs.Spans.{between-to}
 use Rattle.refining.proofs.AsThirtyTwoBytes.{partly-same}
 use Rattle.rows.proofs.Rows.{turned-says}
 use Rattle.assign.proofs.AsManyAsCan.{widest-same}
@@ -16,9 +15,7 @@ turned-requires : tie.Need-turned-requires
 turned-requires c κs = search needs
 
 serve-all-requires : tie.Need-serve-all-requires
-serve-all-requires c κs =
-    let called = c .before .before .before in
-    (omega arith, omega (arith, called .before .pre .1), λ v u. let p = called .quick .ensures .partly .waits v u in (let t = between-to 0 _ v (p .0) in omega (arith, called .before .pre .0), p .1))
+serve-all-requires c κs = (omega arith, omega (arith, c .before .before .before .before .pre .1))
 
 returns : tie.Need-returns
 returns c =

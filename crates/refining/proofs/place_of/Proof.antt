@@ -1,5 +1,5 @@
--- `place_of` meets its contract. The invariant: every place before `to` that holds m is p or before p. The measure is p. It ends before 0, since m stands somewhere.
--- Assumes nothing.
+-- `place_of` meets its contract. The invariant: every place after e that holds m is p or after p. The measure is what is left of the list. It ends, since m stands
+-- after e. Assumes nothing.
 use mathlib.Core.Path.{_≡_, sym, ap, _∙_}
 use mathlib.Core.Logic.{⊎-elim}
 use Prim.Native.Nat.{ℕ, _-_, _<_, _≤_}
@@ -10,45 +10,50 @@ use Rattle.refining.proofs.place_of.Statement.{statement}
 use Rattle.refining.proofs.place_of.Tie as tie
 
 abbrev Inv-loop : tie.InvT-loop
-Inv-loop m to w p₀ p = (p < to) × ((i : ℕ) → i < to → getD w i 0 ≡ m → i ≤ p)
+Inv-loop w m e p₀ p = (e < p) × ((i : ℕ) → e < i → getD w i 0 ≡ m → p ≤ i)
 
 abbrev μ-loop : tie.MeasureT-loop
-μ-loop m to w p₀ p = p
+μ-loop w m e p₀ p = 32 - p
 
-sub-p : tie.Need-sub-p Inv-loop μ-loop
-sub-p c = let z = c .pre .1 .early in omega arith
+add-p : tie.Need-add-p Inv-loop μ-loop
+add-p c = let z = c .pre .after in let y = c .pre .early in omega arith
 
 loop-holds : tie.Need-loop-holds Inv-loop μ-loop
-loop-holds c = let z = c .pre .1 .early in (omega arith, λ i l q. omega arith)
+loop-holds c = (omega arith, λ i l q. omega arith)
 
-cast-loop : tie.Need-cast-loop Inv-loop μ-loop
-cast-loop c = omega arith
+-- the place that holds m is p or after p
+far : (c : tie.At-loop Inv-loop μ-loop) → c .loop .p < 32
+far c =
+    let s = c .before .pre in
+    let k = c .loop .inv .1 (s .place) (s .after) (s .here) in
+    let z = s .early in
+    omega arith
 
-array-read-loop : tie.Need-array-read-loop Inv-loop μ-loop
-array-read-loop c = omega arith
+cast-if1 : tie.Need-cast-if1 Inv-loop μ-loop
+cast-if1 c = omega (arith, far c)
 
--- the place that holds m is before p
-falls : (c : tie.In-loop Inv-loop μ-loop) → (i : ℕ) → i < c .before .before .args .to → getD (c .before .before .args .t1) i 0 ≡ c .before .before .args .m → i < c .before .loop .p
-falls c i l q =
-    let w = c .before .before .args .t1 in
-    let p = c .before .loop .p in
-    let k = c .before .loop .inv .1 i l q in
-    ⊎-elim
-    (λ (r : i ≡ p). absurd (c .loop-test .taken (ap (λ (j : ℕ). getD w j 0) (sym r) ∙ q)))
-    (λ (r : i ≡ p → ⊥). omega arith)
-    (same? i p)
+element-copy-out-if1 : tie.Need-element-copy-out-if1 Inv-loop μ-loop
+element-copy-out-if1 c = far c
 
-sub-p-2 : tie.Need-sub-p-2 Inv-loop μ-loop
-sub-p-2 c = let s = c .before .before .pre .1 in let z = falls c (s .place) (s .early) (s .here) in omega arith
+add-p-2 : tie.Need-add-p-2 Inv-loop μ-loop
+add-p-2 c = omega (arith, far (c .before .before))
 
 loop-less : tie.Need-loop-less Inv-loop μ-loop
-loop-less c = let s = c .before .before .pre .1 in let z = falls c (s .place) (s .early) (s .here) in omega arith
+loop-less c = omega (arith, far (c .before .before))
 
 loop-again : tie.Need-loop-again Inv-loop μ-loop
-loop-again c = (omega arith, λ i l q. let z = falls c i l q in omega arith)
+loop-again c =
+    let l = c .before .before in
+    let i = l .loop .inv in (
+      omega arith,
+      λ j z q. ⊎-elim
+          (λ (r : j ≡ l .loop .p). absurd (c .if1 .taken (ap (λ (n : ℕ). getD (l .before .args .w .now) n 0) (sym r) ∙ q)))
+          (λ (r : j ≡ l .loop .p → ⊥). let k = i .1 j z q in omega arith)
+          (same? j (l .loop .p)),
+    )
 
 returns : tie.Need-returns Inv-loop μ-loop
-returns c = let i = c .before .loop .inv in record { early = i .0; here = c .loop-test .left; last = i .1 }
+returns c = let i = c .before .before .loop .inv in record { after = i .0; here = c .if1 .left; first = i .1 }
 
 pub place-of-spec : {M : Type 1} → statement M
-place-of-spec = tie.close (tie.spec Inv-loop μ-loop sub-p loop-holds cast-loop array-read-loop sub-p-2 loop-less loop-again returns)
+place-of-spec = tie.close (tie.spec Inv-loop μ-loop add-p loop-holds cast-if1 element-copy-out-if1 add-p-2 loop-less loop-again returns)
