@@ -4,14 +4,14 @@ use mathlib.Core.Path.{_≡_, refl, sym, ap, _∙_, subst}
 use mathlib.Core.Logic.{_⊎_, inl, inr, ⊎-elim}
 use mathlib.Core.Bool.{Bool, true, false, not, _&&_, _||_}
 use mathlib.Core.List.{List}
-use Prim.Native.Nat.{ℕ, _^_, _≤_, _<_}
+use Prim.Native.Nat.{ℕ, _^_, _<_}
 use native.Mathlib.Omega.{arith}
-use lib.Bits.{bitAnd, bitXor, bitOr, and-le-r}
+use lib.Bits.{bitAnd, and-le-r}
 use lib.ListN.{getD}
 use Rattle.masks.specs.Masks.{bit, Flipped}
 use Rattle.chains.specs.Chain.{Ready, reach, Shut, Stuck, Spread, Explored}
 use Rattle.facts.proofs.Cases.{same?, holds?, clash, not-so, and-left, and-right, both, one-of, or-left, or-right}
-use Rattle.masks.proofs.Masks.{odd, bit-and, bit-or, bit-xor, and-bits, and-none, lowest-bit}
+use Rattle.masks.proofs.Masks.{odd, and-bits, lowest-bit}
 use Rattle.chains.proofs.Chains.{flipped-down, flipped-out, reach-row, reach-open, reach-free, reach-held}
 
 -- the loop: R are the held places that are not tried yet, W is what m and the holders of the tried ones may take; each spread set has the tried ones, and

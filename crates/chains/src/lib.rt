@@ -1,5 +1,5 @@
 // One member more, by an alternating chain through members and elements.
-ghost use Prim.Native.Nat.{_<_, _≤_};
+ghost use Prim.Native.Nat.{_≤_};
 ghost use Rattle.masks.specs.Masks.{bit};
 ghost use Rattle.rows.specs.Rows.{picks};
 ghost use Rattle.chains.specs.Chain.{Spares, Ready, Settled, Explored};

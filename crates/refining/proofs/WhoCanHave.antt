@@ -1,5 +1,5 @@
 -- The rivals of a place, and who of them can have it. Assumes nothing.
--- open-*: the members that stand nowhere before e, as e goes on. rivals-sound, rivals-going: of them, those that may take e and are below its byte are the rivals, and all.
+-- open-*: the members that stand nowhere before e, as e goes on. rivals-sound, rivals-going: of them, those that may take e and are below its byte are the rivals, and all. leads-last: the last place has none.
 -- holders-*: the members that hold places, one by one. moves-spare, moves-held: what an exploration shows. candidates-all, candidates-reached: so who can have e.
 use mathlib.Core.Path.{_≡_, refl, sym, ap, _∙_, subst}
 use mathlib.Core.Logic.{_⊎_, inl, inr, ⊎-elim}
@@ -17,7 +17,7 @@ use Rattle.rows.specs.Rows.{may, picks}
 use Rattle.rows.specs.Columns.{Turned}
 use Rattle.chains.specs.Chain.{reach, within, Spares, Spread, Explored, Holders, Blocked}
 use Rattle.refining.specs.AsBytes.{Dealt}
-use Rattle.refining.specs.Refine.{Later, Rival, Standing, Agrees, Tries, Around, Moves, Candidates, Going, Open}
+use Rattle.refining.specs.Refine.{Rival, Standing, Agrees, Tries, Around, Moves, Candidates, Going, Open, Leads}
 use Rattle.facts.proofs.Cases.{same?, below, holds?, clash, not-so, and-left, and-right, both, hit, miss}
 use Rattle.facts.proofs.Spans.{between-in, between-from, between-to}
 use Rattle.facts.proofs.Counting.{cnt-set, cnt-at, cnt-place, cnt-two}
@@ -25,7 +25,7 @@ use Rattle.rows.proofs.Rows.{turned-says}
 use Rattle.chains.proofs.Chains.{flipped-out, reach-row, reach-open, within-both, held-inv, open-in}
 use Rattle.chains.proofs.Blocked.{blocked-never, stuck-blocked}
 use Rattle.refining.proofs.AsThirtyTwoBytes.{dealt-fits, dealt-block, dealt-one, fits-block, fits-within, within-in, within-may, within-piece}
-use Rattle.refining.proofs.Refinement.{byte, dealt-outside}
+use Rattle.refining.proofs.Refinement.{byte, going-done, dealt-outside, leads-step}
 
 -- ---- the members of the block that stand nowhere before e
 pub open-start : {may : ℕ → ℕ → Bool} {first k from to : ℕ} {w : List ℕ} {O : ℕ → Bool} → first + k ≤ 32 → from ≤ 32 → Dealt may first k from to w → ((m : ℕ) → O m ≡ between first (first + k) m)
@@ -134,6 +134,23 @@ module _ {rows cols : List ℕ} {first k from to : ℕ} {w : List ℕ} {e : ℕ}
         (between-in 0 (min (getD w e 0) 32) v (omega arith) (omega arith)))
         (byte da e low);
   }
+
+-- the last place has no rivals: there is none after it to change with
+pub leads-last : {rows cols : List ℕ} {first k from to : ℕ} {w : List ℕ} {e : ℕ} {O : ℕ → Bool} → first + k ≤ 32 → to ≤ 32 → from ≤ e → to ≤ e + 1 → e ≤ to → Turned rows first k from to cols
+    → Open first k w e O → Leads (picks cols) first k from to w e → Leads (picks cols) first k from to w to
+leads-last {rows} {cols} {first} {k} {from} {to} {w} {e} {O} block end after l z turned o h = ⊎-elim
+    (λ (q : e ≡ to). subst (λ (i : ℕ). Leads (picks cols) first k from to w i) q h)
+    (λ (n : e ≡ to → ⊥).
+    let q : e + 1 ≡ to = omega arith in
+    let R : ℕ → Bool = λ m. (may rows m e && O m) && between 0 (min (getD w e 0) 32) m in
+    let early : e < to = omega arith in
+    let none : (m : ℕ) → R m ≡ false = λ m. not-so (R m) (λ r.
+    let later = rivals-sound {R = R} block after early end turned (h .dealt) o (λ v. refl) m r .later in
+    let x = later .after in
+    let y = later .early in
+    omega arith) in
+    subst (λ (i : ℕ). Leads (picks cols) first k from to w i) q (leads-step h (going-done block (h .dealt) (rivals-going {R = R} block after early end turned (h .dealt) o (λ v. refl)) none)))
+    (same? e to)
 
 -- ---- the holders of places, one by one: R are those that are left of P
 pub holders-none : {w : List ℕ} {S : ℕ → Bool} (P : ℕ → Bool) → ((v : ℕ) → S v ≡ false) → Holders w (λ e. P e && not (P e)) S

@@ -2,14 +2,14 @@
 ghost use mathlib.Core.Path.{_≡_};
 ghost use mathlib.Core.Bool.{true, _&&_};
 ghost use Prim.Native.Nat.{ℕ, _+_, _<_, _≤_, min};
-ghost use lib.ListN.{length, getD};
+ghost use lib.ListN.{getD};
 ghost use Rattle.masks.specs.Masks.{bit};
 ghost use Rattle.facts.specs.Counting.{between};
 ghost use Rattle.rows.specs.Rows.{may, picks};
 ghost use Rattle.rows.specs.Columns.{Turned};
-ghost use Rattle.chains.specs.Chain.{Spares, Holders};
+ghost use Rattle.chains.specs.Chain.{Holders};
 ghost use Rattle.refining.specs.AsBytes.{Dealt};
-ghost use Rattle.refining.specs.Refine.{Later, Next, Standing, Candidates, Exchanges, Exchanged, Improves, Improved, Leads};
+ghost use Rattle.refining.specs.Refine.{Later, Next, Standing, Candidates, Exchanges, Exchanged, Improves, Leads};
 use chains::explore;
 use chains::settle;
 use chains::spare_places;
@@ -128,7 +128,8 @@ pub fn refine(
     // the members that stand nowhere before e
     let mut left = span(first, first + k);
     let mut e = from;
-    while e < to {
+    // the last element has no place after it to change with
+    while e + 1 < to {
         let byte = x[e as usize];
         let wanted = rivals(rows, left, byte, e);
         let after = span(e + 1, to);

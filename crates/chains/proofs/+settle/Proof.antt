@@ -1,11 +1,11 @@
 -- The proof of the cycle of calls {settle}. The measure is the number of held places that have not been tried: a place is tried before its owner is asked.
 -- The loop's invariant: w is as it was, and `Walk`: who holds a place that was tried may take no spare place and none that is left. Its measure is the number of
 -- held places to try. Assumes nothing.
-use mathlib.Core.Path.{_≡_, refl, sym, ap, subst, _∙_}
+use mathlib.Core.Path.{_≡_, refl, sym, subst}
 use mathlib.Core.Bool.{true}
 use mathlib.Core.List.{List}
 use Prim.Native.Nat.{ℕ, _<_}
-use lib.ListN.{length, getD, set}
+use lib.ListN.{getD, set}
 use native.Mathlib.Omega.{arith}
 use borrow.Fn.Kinds.{In}
 use borrow.Fn.PlainCycle.{Measures, is, falls, and}

@@ -2,7 +2,6 @@
 -- The measure is how many places were not tried. Assumes nothing.
 use mathlib.Core.Path.{_≡_, ap, _∙_}
 use mathlib.Core.Bool.{Bool, true, _||_}
-use Prim.Native.Nat.{ℕ}
 use native.Mathlib.Omega.{arith}
 use Rattle.masks.specs.Masks.{bit}
 use Rattle.rows.specs.Rows.{picks}

@@ -1,6 +1,5 @@
 -- `candidates` meets its contract: all rivals, or those to whom an exploration from the holder of e leads. Assumes nothing.
 use native.Mathlib.Omega.{arith}
-use borrow.Author.Needs.{needs}
 use Rattle.masks.proofs.Masks.{bit-and}
 use Rattle.chains.proofs.Chains.{ready, held-inv}
 use Rattle.refining.proofs.WhoCanHave.{moves-spare, candidates-all, candidates-reached}

@@ -1,6 +1,6 @@
 -- `exchange` meets its contract: m takes e and its place is spare then; who held e is served, since the candidates are those for whom that can be done.
 -- Assumes nothing.
-use mathlib.Core.Path.{_≡_, sym, _∙_}
+use mathlib.Core.Path.{_≡_}
 use mathlib.Core.Logic.{⊎-elim}
 use Prim.Native.Nat.{_+_, _<_, _≤_}
 use native.Mathlib.Omega.{arith}

@@ -1,11 +1,11 @@
 -- `refine` meets its contract. The invariant: x is an assignment, and every assignment is as x before e, or comes later for a place before e; `free` has its spare
--- places from e on, and `left` the members that stand nowhere before e. The measure is what is left of the piece. Assumes nothing.
+-- places from e on, and `left` the members that stand nowhere before e. The measure is what is left of the piece. At the last
+-- place there is nothing to change. Assumes nothing.
 use mathlib.Core.Path.{_≡_, sym, subst}
 use mathlib.Core.Logic.{⊎-elim}
 use mathlib.Core.Bool.{true}
 use Prim.Native.Nat.{ℕ, _+_, _-_, _≤_, _<_}
 use native.Mathlib.Omega.{arith}
-use lib.ListN.{getD}
 use Rattle.masks.specs.Masks.{bit}
 use Rattle.rows.specs.Rows.{picks}
 use Rattle.chains.specs.Chain.{Spares}
@@ -13,7 +13,7 @@ use Rattle.refining.specs.Refine.{Rival, Going, Improved, Open, Leads}
 use Rattle.chains.proofs.Chains.{spares-after}
 use Rattle.refining.proofs.AsThirtyTwoBytes.{dealt-one}
 use Rattle.refining.proofs.Refinement.{leads-start, leads-step}
-use Rattle.refining.proofs.WhoCanHave.{open-start, open-agrees, open-spare, open-held, rivals-sound, rivals-going}
+use Rattle.refining.proofs.WhoCanHave.{open-start, open-agrees, open-spare, open-held, rivals-sound, rivals-going, leads-last}
 use Rattle.refining.proofs.refine.Statement.{statement}
 use Rattle.refining.proofs.refine.Tie as tie
 
@@ -40,6 +40,9 @@ loop-holds c =
     let dealt = p .4 in
     (omega arith, omega arith, c .before .spare-places .ensures, open-start (p .0) (omega arith) dealt (c .span .ensures), leads-start (omega arith) dealt)
 
+add-loop : tie.Need-add-loop Inv-loop μ-loop
+add-loop c = omega arith
+
 cast-byte : tie.Need-cast-byte Inv-loop μ-loop
 cast-byte c = omega arith
 
@@ -63,7 +66,7 @@ found c =
     let l = c .before .before in
     let p = l .before .before .before .pre in
     let i = l .loop .inv in
-    let early = c .before .loop-test .taken in (
+    let early : l .loop .e < l .before .before .before .args .to = omega (arith, c .before .loop-test .taken) in (
       rivals-sound (p .0) (i .0) early (p .2) (p .3) (i .4 .dealt) (i .3) (c .rivals .ensures),
       rivals-going (p .0) (i .0) early (p .2) (p .3) (i .4 .dealt) (i .3) (c .rivals .ensures),
     )
@@ -77,7 +80,7 @@ improve-requires c κs =
     let i = l .loop .inv in
     record {
       size = i .4 .dealt .size;
-      early = asked .before .loop-test .taken;
+      early = omega (arith, asked .before .loop-test .taken);
       end = p .2;
       once = λ v z. dealt-one (i .4 .dealt) v (omega arith);
       spares = spares-after (l .loop .free) (made .span2 .result) (made .span2 .ensures) (i .2);
@@ -135,9 +138,9 @@ loop-again c =
 returns : tie.Need-returns Inv-loop μ-loop
 returns c =
     let l = c .before in
-    let done : l .loop .e ≡ l .before .before .before .args .to = omega arith in
-    let leads = l .loop .inv .4 in
-    rw done at leads
+    let p = l .before .before .before .pre in
+    let i = l .loop .inv in
+    leads-last (p .0) (p .2) (i .0) (c .loop-test .left) (i .1) (p .3) (i .3) (i .4)
 
 pub refine-spec : {M : Type 1} → statement M
 refine-spec =
@@ -149,6 +152,7 @@ refine-spec =
     add-span
     span-requires
     loop-holds
+    add-loop
     cast-byte
     array-read-byte
     rivals-requires

@@ -1,7 +1,6 @@
 -- `saturate` meets its contract. The invariant: w is an assignment by the members that wait no longer, and `free` has its spare places. The measure is how many members
 -- wait. Assumes nothing.
 use mathlib.Core.Path.{_≡_, refl, ap, _∙_}
-use mathlib.Core.Bool.{true}
 use mathlib.Core.Logic.{⊎-elim}
 use Prim.Native.Nat.{ℕ, _+_, _<_, _≤_}
 use native.Mathlib.Omega.{arith}
@@ -31,7 +30,7 @@ abbrev μ-loop : tie.MeasureT-loop
 μ-loop columns from to left w₀ piece free₀ waiting₀ w free waiting = count (bit waiting) 32
 
 span-requires : tie.Need-span-requires Inv-loop μ-loop
-span-requires c κs = c .pre
+span-requires c κs = (omega (arith, c .pre .0), c .pre .1)
 
 spare-places-requires : tie.Need-spare-places-requires Inv-loop μ-loop
 spare-places-requires c κs = c .before .pre

@@ -1,20 +1,18 @@
 -- `serve_all` meets its contract. The invariant: `free` has the spare places of w, and `held` only held ones; where `begun` is an assignment by the members that are not
 -- in `left`, w is one by those that are neither left nor wait, and who waits, or holds a place that is in neither, may take none of them (`Wide`).
 -- The measure is how many members are left. Assumes nothing.
-use mathlib.Core.Path.{_≡_, refl, sym, ap, _∙_, subst, subst₂}
+use mathlib.Core.Path.{_≡_, refl, sym, ap, _∙_, subst₂}
 use mathlib.Core.Logic.{⊎-elim}
-use mathlib.Core.Bool.{true}
 use mathlib.Core.List.{List}
-use Prim.Native.Nat.{ℕ, _+_, _<_, _≤_}
+use Prim.Native.Nat.{ℕ, _+_, _≤_}
 use native.Mathlib.Omega.{arith}
-use lib.ListN.{length, getD}
+use lib.ListN.{length}
 use borrow.Author.Needs.{needs}
 use Rattle.masks.specs.Masks.{bit}
 use Rattle.rows.specs.Rows.{picks}
-use Rattle.facts.specs.Counting.{between, count}
+use Rattle.facts.specs.Counting.{count}
 use Rattle.chains.specs.Chain.{Spares}
 use Rattle.refining.specs.AsBytes.{Partly}
-use Rattle.facts.proofs.Spans.{between-to}
 use Rattle.masks.proofs.Masks.{bit-none}
 use Rattle.chains.proofs.Chains.{left-falls, held-inv, open-in, spares-filled}
 use Rattle.assign.proofs.AsManyAsCan.{Held, held-filled, Wide, wide-start, wide-served, wide-stuck, wide-done}
