@@ -1,12 +1,19 @@
 // The first assignment of a piece by a block, in byte order. Members and elements are numbers below 32, and bit m of `rows[e]` says
 // that member m may take element e. Chains start at members, so the search goes by columns, the rows turned.
+ghost use mathlib.Core.Path.{_≡_};
+ghost use mathlib.Core.Bool.{false};
 ghost use Prim.Native.Nat.{_+_, _≤_};
 ghost use Rattle.assign.specs.Splice.{Spliced};
 ghost use Rattle.masks.specs.Masks.{bit};
 ghost use Rattle.rows.specs.Rows.{may};
 ghost use Rattle.assign.specs.Answer.{Answer};
+ghost use Rattle.assign.specs.Saturate.{Unwanted};
 ghost use Rattle.assign.specs.Widest.{Widest};
 use blocks::Found;
+use format::MEMBERS_MOST;
+use format::SPARE;
+use masks::meets;
+use masks::span;
 use refining::refine;
 use rows::turned;
 
@@ -20,6 +27,23 @@ pub struct Served {
     pub waiting: u32,
 }
 
+// Whether a member of the block may take a spare element of the piece. If not, no chain ends: that is seen before the rows are turned.
+fn spare_wanted(rows: &[u32; 32], block: u32, from: u8, to: u8, w: [u8; 32]) -> bool
+    requires { ⌜ (from ≤ to) × (to ≤ 32) ⌝ }
+    ensures { λ r. ⌜ (r ≡ false → Unwanted (may (now (rows .entry))) (bit block) from to w) ⌝ }
+{
+    let mut able: u32 = 0;
+    let mut e = from;
+    while e < to {
+        if w[e as usize] >= MEMBERS_MOST {
+            let row = rows[e as usize];
+            able = able | row;
+        }
+        e += 1;
+    }
+    meets(able, block)
+}
+
 // The first assignment of the elements from .. to - 1 by the members first .. first + k - 1.
 pub fn first_assignment(rows: &[u32; 32], first: u8, k: u8, from: u8, to: u8) -> Found
     requires { ⌜ (first + k ≤ 32) × (from ≤ to) × (to ≤ 32) ⌝ }
@@ -31,6 +55,14 @@ pub fn first_assignment(rows: &[u32; 32], first: u8, k: u8, from: u8, to: u8) ->
         return Found {
             found: true,
             w: begun,
+        };
+    }
+    let block = span(first, first + k);
+    if !spare_wanted(rows, block, from, to, begun) {
+        let blank = [SPARE; 32];
+        return Found {
+            found: false,
+            w: blank,
         };
     }
     let columns = turned(rows, first, k, from, to);
