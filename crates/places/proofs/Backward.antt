@@ -62,7 +62,7 @@ ways-back {may} {b} {bs} {n} {good} {r} f g = record {
 }
 
 -- ---- two relations that agree on the block's members
-agrees-turn : {may may' : ℕ → ℕ → Bool} {b : Block} {n : ℕ} → Agrees may may' b n → Agrees may' may b n
+pub agrees-turn : {may may' : ℕ → ℕ → Bool} {b : Block} {n : ℕ} → Agrees may may' b n → Agrees may' may b n
 agrees-turn a = record { same = λ m e b l. sym (a .same m e b l) }
 
 pub takes-agree : {may may' : ℕ → ℕ → Bool} {b : Block} {n from to : ℕ} {p : List ℕ} → Agrees may may' b n → to ≤ n → Takes may b from to p → Takes may' b from to p

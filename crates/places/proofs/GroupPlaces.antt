@@ -19,8 +19,8 @@ use Rattle.blocks.specs.Assignment.{Assigns}
 use Rattle.blocks.specs.Pieces.{Takes}
 use Rattle.assign.specs.Answer.{Answer}
 use Rattle.places.specs.Ways.{Low, Leads, Back, Led, Sought}
-use Rattle.places.specs.Bytes.{Lone, AfterLast}
-use Rattle.places.proofs.Windows.{lone-wider, lone-last, Held, placed, held-placed, held-assigned, held-wider}
+use Rattle.places.specs.Bytes.{Lone, Held, AfterLast}
+use Rattle.places.proofs.Windows.{lone-wider, lone-last, placed, held-placed, held-assigned, held-wider}
 
 -- ---- the furthest of the places up to `most`
 pub record Furthest (good most q : ℕ) : Type 0 where

@@ -17,7 +17,7 @@ use Rattle.blocks.specs.Assignment.{takes, Assigns}
 use Rattle.blocks.specs.declared.Block.{Block}
 use Rattle.blocks.specs.Pieces.{Takes}
 use Rattle.blocks.proofs.Assignments.{takes-spare, takes-inv}
-use Rattle.places.specs.Bytes.{Lone, AfterLast}
+use Rattle.places.specs.Bytes.{Lone, Held, AfterLast}
 
 -- ---- windows
 -- a byte that is not 255 stands inside
@@ -151,12 +151,6 @@ module _ (from to : ℕ) (p : List ℕ) (size : length p ≡ to - from) (o : fro
       (below i (from - start)))
 
 -- ---- what a block takes, at its place
-pub record Held (may : ℕ → ℕ → Bool) (b : Block) (from to : ℕ) (w : List ℕ) : Type 0 where
-  pub lone : Lone from to w
-  pub order : from ≤ to
-  pub high : to ≤ 32
-  pub taken : Takes may b from to (slice from to w)
-
 pub held-placed : {may : ℕ → ℕ → Bool} {b : Block} {from to : ℕ} {p : List ℕ} → from ≤ to → to ≤ 32 → Takes may b from to p → Held may b from to (placed from p)
 held-placed {may} {b} {from} {to} {p} o t h =
     let size = h .assigned .size in

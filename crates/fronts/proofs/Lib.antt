@@ -1,0 +1,17 @@
+-- What the proofs of several functions use, and that the promise of the public function allows one result only.
+-- Orders     == where one list comes before another
+-- Steps      == the first cut, one block more
+-- Picked     == the first of the lists that a group takes from one of several places
+-- Blanks     == pieces of lists that are 255 at one end
+-- Groups     == a group is settled by the first of its lists
+-- Moves      == one block more, as the functions do it
+-- LentFronts == the blocks that are read of lent numbers
+-- Unique     == the promise of `first_cut_from` allows one result only
+pub mod Orders
+pub mod Steps
+pub mod Picked
+pub mod Blanks
+pub mod Groups
+pub mod Moves
+pub mod LentFronts
+pub mod Unique

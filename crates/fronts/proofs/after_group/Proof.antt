@@ -1,0 +1,85 @@
+-- `after_group` meets its contract: the first of its lists settles the group. Assumes nothing.
+use Rattle.fronts.proofs.Moves.{picked-order, picked-all, nexts-are, group-moved}
+use borrow.Author.Needs.{needs}
+use Rattle.fronts.proofs.after_group.Statement.{statement}
+use Rattle.fronts.proofs.after_group.Tie as tie
+use Rattle.fronts.proofs.after_group.Reads as reads
+use Rattle.fronts.proofs.after_group.Lts as lts
+use Rattle.assign.proofs.splice.Reads as splice-reads
+use Rattle.fronts.proofs.pick.first_member.Reads as first-member-reads
+use Rattle.fronts.proofs.pick.first_piece.Reads as first-piece-reads
+use Rattle.place_masks.proofs.after_spares.Reads as after-spares-reads
+use Rattle.place_masks.proofs.from_on.Reads as from-on-reads
+use Rattle.place_masks.proofs.in_both.Reads as in-both-reads
+use Rattle.place_masks.proofs.up_to.Reads as up-to-reads
+use Rattle.places.proofs.after_last.Reads as after-last-reads
+
+first-piece-requires : tie.Need-first-piece-requires
+first-piece-requires c κs = search needs
+
+first-member-requires : tie.Need-first-member-requires
+first-member-requires c κs = let g = c .before .before .first-piece .ensures .0 in (picked-order (c .before .before .before .pre .4) g, g .high)
+
+after-last-requires : tie.Need-after-last-requires
+after-last-requires c κs = search needs
+
+splice-requires : tie.Need-splice-requires
+splice-requires c κs = search needs
+
+cast-least : tie.Need-cast-least
+cast-least c = search needs
+
+cast-least-2 : tie.Need-cast-least-2
+cast-least-2 c = search needs
+
+add-least : tie.Need-add-least
+add-least c = search needs
+
+cast-most : tie.Need-cast-most
+cast-most c = search needs
+
+cast-most-2 : tie.Need-cast-most-2
+cast-most-2 c = search needs
+
+add-most : tie.Need-add-most
+add-most c = search needs
+
+up-to-requires : tie.Need-up-to-requires
+up-to-requires c κs = search needs
+
+after-spares-requires : tie.Need-after-spares-requires
+after-spares-requires c κs = search needs
+
+from-on-requires : tie.Need-from-on-requires
+from-on-requires c κs = search needs
+
+in-both-requires : tie.Need-in-both-requires
+in-both-requires c κs = search needs
+
+returns : tie.Need-returns
+returns c =
+    let s = c .before .before .before .before .before .before .before .before .before .before .before .before .before .before in
+    let g = c .before .before .before .before .before .before .before .before .before .before .before .before .before .first-piece .ensures in
+    group-moved (s .pre .0) (s .pre .1) (s .pre .2) (s .pre .4) (picked-all (g .1) (g .0)) (c .before .before .before .before .before .before .before .before .before .before .first-member .ensures) (c .before .before .before .before .before .before .before .before .before .after-last .ensures)
+    (nexts-are (c .before .before .before .up-to .result) (c .before .before .after-spares .result) (c .before .from-on .result) (s .pre .2) (c .before .before .before .up-to .ensures) (c .before .before .after-spares .ensures) (c .before .from-on .ensures) (c .in-both .ensures))
+    (c .before .before .before .before .before .before .before .before .splice .ensures)
+
+pub after-group-spec : {M : Type 1} → statement M
+after-group-spec =
+    tie.close
+    (tie.spec
+    first-piece-requires
+    first-member-requires
+    after-last-requires
+    splice-requires
+    cast-least
+    cast-least-2
+    add-least
+    cast-most
+    cast-most-2
+    add-most
+    up-to-requires
+    after-spares-requires
+    from-on-requires
+    in-both-requires
+    returns)
