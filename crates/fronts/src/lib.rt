@@ -2,7 +2,9 @@
 ghost use mathlib.Core.Path.{_≡_};
 ghost use mathlib.Core.Bool.{Bool, true};
 ghost use Prim.Native.Nat.{ℕ, _+_, _≤_, _<_};
-ghost use lib.ListN.{take};
+ghost use lib.ListN.{length, take};
+ghost use mathlib.Core.List.{List};
+ghost use Rattle.assign.specs.Splice.{Spliced};
 ghost use Rattle.masks.specs.Masks.{bit};
 ghost use Rattle.rows.specs.Rows.{may as mayRows};
 ghost use Rattle.blocks.specs.Numbers.{blocksIn};
@@ -10,7 +12,6 @@ ghost use Rattle.blocks.specs.Pieces.{Inside, Cutting};
 ghost use Rattle.places.specs.Ways.{Low, isOne};
 ghost use Rattle.fronts.specs.Fronts.{Leading, Standing, Moved};
 ghost use Rattle.fronts.specs.Given.{Ready, ReadyFor, Prepares, Prepared};
-use assign::splice;
 use blocks::Block;
 use blocks::block_at;
 use format::SPARE;
@@ -29,74 +30,78 @@ mod pick; // the first of the lists that a group takes
 
 // The bytes before `from` are settled. The next block begins at one of the places, with spare elements up to there: which one, the blocks to
 // come decide.
-pub struct Front {
-    pub places: u64,
-    pub from: usize,
-    pub w: [u8; 32],
+struct Front {
+    places: u64,
+    from: usize,
 }
 
 // A block with no members settles nothing.
 fn after_star(b: Block, f: Front, ends: u64) -> Front
-    requires { ⌜ (b .k ≡ 0) × Low ends 32 × Standing (f .places) (f .from) (f .w) ⌝ }
-    ensures { λ r. ⌜ ((may : ℕ → ℕ → Bool) → Leading may b ends (f .places) → Moved may b ends (f .places) (f .from) (f .w) (r .places) (r .from) (r .w)) ⌝ }
+    requires { ⌜ (b .k ≡ 0) × Low ends 32 ⌝ }
+    ensures { λ r. ⌜ ((may : ℕ → ℕ → Bool) (w : List ℕ) → Leading may b ends (f .places) → Standing (f .places) (f .from) w → Moved may b ends (f .places) (f .from) w (r .places) (r .from) w) ⌝ }
 {
-    let w = f.w;
     Front {
         places: in_both(after_spares(f.places, b.min as usize, b.max as usize), ends),
         from: f.from,
-        w: w,
     }
 }
 
 // One member has the first of the places.
-fn after_one(b: Block, f: Front) -> Front
-    requires { ⌜ (isOne b ≡ true) × (b .first + b .k ≤ 32) × (0 < f .places) × Low (f .places) 31 × Standing (f .places) (f .from) (f .w) ⌝ }
-    ensures { λ r. ⌜ ((may : ℕ → ℕ → Bool) (ends : ℕ) → Low ends 32 → Leading may b ends (f .places) → Moved may b ends (f .places) (f .from) (f .w) (r .places) (r .from) (r .w)) ⌝ }
+fn after_one(b: Block, f: Front, w: &mut [u8; 32]) -> Front
+    requires { ⌜ (isOne b ≡ true) × (b .first + b .k ≤ 32) × (0 < f .places) × Low (f .places) 31 × Standing (f .places) (f .from) (now w) ⌝ }
+    ensures { λ r. ⌜ ((may : ℕ → ℕ → Bool) (ends : ℕ) → Low ends 32 → Leading may b ends (f .places) → Moved may b ends (f .places) (f .from) (now (w .entry)) (r .places) (r .from) (now (w .exit))) ⌝ }
 {
     let q = lowest_place(f.places);
-    let m = b.first;
-    let mut w = f.w;
-    w[q] = m;
+    w[q] = b.first;
     Front {
         places: with_place(0, q + 1),
         from: q + 1,
-        w: w,
+    }
+}
+
+// Copies the bytes from .. to - 1 of a.
+fn copy_piece(a: &[u8; 32], from: usize, to: usize, w: &mut [u8; 32])
+    requires { ⌜ (from ≤ to) × (to ≤ 32) × (length (now w) ≡ 32) ⌝ }
+    ensures { λ _. ⌜ Spliced (now (a .entry)) (now (w .entry)) from to (now (w .exit)) ⌝ }
+{
+    let mut e = from;
+    while e < to {
+        w[e] = a[e];
+        e += 1;
     }
 }
 
 // A group settles what comes up to its last member. It may begin at each place up to the first.
-fn after_group(rows: &[u32; 32], b: Block, f: Front, ends: u64) -> Front
-    requires { ⌜ (b .first + b .k ≤ 32) × (0 < b .k) × Low ends 32 × Leading (mayRows (now rows)) b ends (f .places) × Standing (f .places) (f .from) (f .w) ⌝ }
-    ensures { λ r. ⌜ Moved (mayRows (now (rows .entry))) b ends (f .places) (f .from) (f .w) (r .places) (r .from) (r .w) ⌝ }
+fn after_group(rows: &[u32; 32], b: Block, f: Front, ends: u64, w: &mut [u8; 32]) -> Front
+    requires { ⌜ (b .first + b .k ≤ 32) × (0 < b .k) × Low ends 32 × Leading (mayRows (now rows)) b ends (f .places) × Standing (f .places) (f .from) (now w) ⌝ }
+    ensures { λ r. ⌜ Moved (mayRows (now (rows .entry))) b ends (f .places) (f .from) (now (w .entry)) (r .places) (r .from) (now (w .exit)) ⌝ }
 {
-    let g = first_piece(rows, b, f.places, ends);
-    let x = g.w;
-    let old = f.w;
-    let head = first_member(x, f.from, g.to);
-    let next = after_last(x, head, g.to);
-    let w = splice(x, old, f.from, next);
+    let mut g = [SPARE; 32];
+    let to = first_piece(rows, b, f.places, ends, &mut g);
+    let head = first_member(&g, f.from, to);
+    let next = after_last(&g, head, to);
+    copy_piece(&g, f.from, next, w);
     let least = b.k as usize + b.min as usize;
     let most = b.k as usize + b.max as usize;
     let reached = after_spares(up_to(f.places, head), least, most);
     Front {
         places: in_both(reached, from_on(ends, next)),
         from: next,
-        w: w,
     }
 }
 
 // One block more.
-fn after_block(rows: &[u32; 32], b: Block, f: Front, ends: u64) -> Front
-    requires { ⌜ (b .first + b .k ≤ 32) × Standing (f .places) (f .from) (f .w) × ReadyFor (now rows) b ends (f .places) ⌝ }
-    ensures { λ r. ⌜ ((may : ℕ → ℕ → Bool) (n : ℕ) → n ≤ 32 → Ready may (now (rows .entry)) b ends (f .places) n → Moved may b ends (f .places) (f .from) (f .w) (r .places) (r .from) (r .w)) ⌝ }
+fn after_block(rows: &[u32; 32], b: Block, f: Front, ends: u64, w: &mut [u8; 32]) -> Front
+    requires { ⌜ (b .first + b .k ≤ 32) × Standing (f .places) (f .from) (now w) × ReadyFor (now rows) b ends (f .places) ⌝ }
+    ensures { λ r. ⌜ ((may : ℕ → ℕ → Bool) (n : ℕ) → n ≤ 32 → Ready may (now (rows .entry)) b ends (f .places) n → Moved may b ends (f .places) (f .from) (now (w .entry)) (r .places) (r .from) (now (w .exit))) ⌝ }
 {
     if b.k == 0 {
         return after_star(b, f, ends);
     }
     if is_one(b) {
-        return after_one(b, f);
+        return after_one(b, f, w);
     }
-    after_group(rows, b, f, ends)
+    after_group(rows, b, f, ends, w)
 }
 
 // The first cut of the elements 0 .. n - 1 by the first `count` blocks, which have one; `ends` has for each block the places from which those
@@ -111,18 +116,17 @@ pub fn first_cut_from(
     requires { ⌜ (count ≤ 32) × (n ≤ 32) × Inside (blocksIn (take count (now blocks))) × Prepared (now rows) count (now blocks) (now ends) n ⌝ }
     ensures { λ r. ⌜ ((may : ℕ → ℕ → Bool) → Prepares may (now (rows .entry)) count (now (blocks .entry)) (now (ends .entry)) n → Cutting may (blocksIn (take count (now (blocks .entry)))) n true r) ⌝ }
 {
-    let blank = [SPARE; 32];
+    let mut w = [SPARE; 32];
     let mut f = Front {
         places: with_place(0, 0),
         from: 0,
-        w: blank,
     };
     let mut j: usize = 0;
     while j < count {
         let b = block_at(blocks, j);
         let good = ends[j];
-        f = after_block(rows, b, f, good);
+        f = after_block(rows, b, f, good, &mut w);
         j += 1;
     }
-    f.w
+    w
 }

@@ -38,7 +38,7 @@ pub before-one-unique : (κs : Lfts 0) (a : Dens κs before-one-kinds.ps) (r r' 
     → before-one-reads.Post κs a r s → before-one-reads.Post κs a r' s' → r ≡ r'
 before-one-unique κs a r r' s s' p q = bits-same r r' (λ e. p e ∙ sym (q e))
 
-pub after-last-unique : (κs : Lfts 0) (a : Dens κs after-last-kinds.ps) (r r' : resT after-last-kinds.r κs .Denot) (s s' : AtExit (endedOf 0 after-last-kinds.ps after-last-kinds.r) κs)
+pub after-last-unique : (κs : Lfts 1) (a : Dens κs after-last-kinds.ps) (r r' : resT after-last-kinds.r κs .Denot) (s s' : AtExit (endedOf 1 after-last-kinds.ps after-last-kinds.r) κs)
     → after-last-reads.Post κs a r s → after-last-reads.Post κs a r' s' → r ≡ r'
 after-last-unique κs a r r' s s' p q = last-same p q
 

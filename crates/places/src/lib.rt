@@ -35,9 +35,9 @@ pub fn before_one(good: u64) -> u32
 }
 
 // The place after the last member in the piece from .. to - 1.
-pub fn after_last(w: [u8; 32], from: usize, to: usize) -> usize
+pub fn after_last(w: &[u8; 32], from: usize, to: usize) -> usize
     requires { ⌜ (from ≤ to) × (to ≤ 32) ⌝ }
-    ensures { λ r. ⌜ AfterLast w from to r ⌝ }
+    ensures { λ r. ⌜ AfterLast (now (w .entry)) from to r ⌝ }
 {
     let mut p = to;
     while from < p {
@@ -64,7 +64,7 @@ fn led_from(rows: &[u32; 32], b: Block, good: u64, p: usize) -> u64
         return 0;
     }
     let w = f.w;
-    let next = after_last(w, p, q);
+    let next = after_last(&w, p, q);
     up_to(before_spares(from_on(good, next), least, most), p)
 }
 

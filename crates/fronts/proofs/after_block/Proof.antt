@@ -15,25 +15,25 @@ use Rattle.fronts.proofs.after_star.Reads as after-star-reads
 use Rattle.places.proofs.is_one.Reads as is-one-reads
 
 after-star-requires : tie.Need-after-star-requires
-after-star-requires c κs = let s = c .before .before in let r = s .pre .2 in (c .if1 .taken, low-most (s .args .ends) (r .n) (r .high) (r .ready .low), s .pre .1)
+after-star-requires c κs = let s = c .before .before in let r = s .pre .2 in (c .if1 .taken, low-most (s .args .ends) (r .n) (r .high) (r .ready .low))
 
 returns : tie.Need-returns
-returns c = λ may n h r. c .after-star .ensures may (r .leading)
+returns c = let s = c .before .before .before in λ may n h r. c .after-star .ensures may (s .args .w .now) (r .leading) (s .pre .1)
 
 is-one-requires : tie.Need-is-one-requires
 is-one-requires c κs = search needs
 
 after-one-requires : tie.Need-after-one-requires
-after-one-requires c κs = let s = c .before .before .before .before in let r = s .pre .2 in let one = sym (c .before .is-one .ensures) ∙ c .if2 .taken in let low = low-most (s .args .ends) (r .n) (r .high) (r .ready .low) in (one, s .pre .0, bit-pos _ _ (r .ready .leading .here), one-low one (s .pre .0) low (r .ready .leading), s .pre .1)
+after-one-requires c κs = let s = c .before .before .before .before .before in let r = s .pre .2 in let one = sym (c .before .before .is-one .ensures) ∙ c .before .if2 .taken in let low = low-most (s .args .ends) (r .n) (r .high) (r .ready .low) in (one, s .pre .0, bit-pos _ _ (r .ready .leading .here), one-low one (s .pre .0) low (r .ready .leading), s .pre .1)
 
 returns-2 : tie.Need-returns-2
-returns-2 c = let s = c .before .before .before .before .before in λ may n h r. c .after-one .ensures may (s .args .ends) (low-most (s .args .ends) n h (r .low)) (r .leading)
+returns-2 c = let s = c .before .before .before .before .before .before in λ may n h r. c .after-one .ensures may (s .args .ends) (low-most (s .args .ends) n h (r .low)) (r .leading)
 
 after-group-requires : tie.Need-after-group-requires
-after-group-requires c κs = let s = c .before .before .before .before in let r = s .pre .2 in let one = sym (c .before .is-one .ensures) ∙ c .if2 .left in (s .pre .0, omega arith, low-most (s .args .ends) (r .n) (r .high) (r .ready .low), leading-agree (agrees-turn (r .ready .told one)) (r .ready .low) (r .ready .leading), s .pre .1)
+after-group-requires c κs = let s = c .before .before .before .before .before in let r = s .pre .2 in let one = sym (c .before .before .is-one .ensures) ∙ c .before .if2 .left in (s .pre .0, omega arith, low-most (s .args .ends) (r .n) (r .high) (r .ready .low), leading-agree (agrees-turn (r .ready .told one)) (r .ready .low) (r .ready .leading), s .pre .1)
 
 returns-3 : tie.Need-returns-3
-returns-3 c = let one = sym (c .before .before .is-one .ensures) ∙ c .before .if2 .left in λ may n h r. moved-agree (r .told one) (r .low) (c .after-group .ensures)
+returns-3 c = let one = sym (c .before .before .before .is-one .ensures) ∙ c .before .before .if2 .left in λ may n h r. moved-agree (r .told one) (r .low) (c .after-group .ensures)
 
 pub after-block-spec : {M : Type 1} → statement M
 after-block-spec =

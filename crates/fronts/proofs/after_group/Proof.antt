@@ -1,11 +1,11 @@
 -- `after_group` meets its contract: the first of its lists settles the group. Assumes nothing.
-use Rattle.fronts.proofs.Moves.{picked-order, picked-all, nexts-are, group-moved}
+use Rattle.fronts.proofs.Moves.{picked-order, nexts-are, group-moved}
 use borrow.Author.Needs.{needs}
 use Rattle.fronts.proofs.after_group.Statement.{statement}
 use Rattle.fronts.proofs.after_group.Tie as tie
 use Rattle.fronts.proofs.after_group.Reads as reads
 use Rattle.fronts.proofs.after_group.Lts as lts
-use Rattle.assign.proofs.splice.Reads as splice-reads
+use Rattle.fronts.proofs.copy_piece.Reads as copy-piece-reads
 use Rattle.fronts.proofs.pick.first_member.Reads as first-member-reads
 use Rattle.fronts.proofs.pick.first_piece.Reads as first-piece-reads
 use Rattle.place_masks.proofs.after_spares.Reads as after-spares-reads
@@ -18,13 +18,13 @@ first-piece-requires : tie.Need-first-piece-requires
 first-piece-requires c κs = search needs
 
 first-member-requires : tie.Need-first-member-requires
-first-member-requires c κs = let g = c .before .before .first-piece .ensures .0 in (picked-order (c .before .before .before .pre .4) g, g .high)
+first-member-requires c κs = let g = c .before .first-piece .ensures in (picked-order (c .before .before .before .pre .4) g, g .high)
 
 after-last-requires : tie.Need-after-last-requires
 after-last-requires c κs = search needs
 
-splice-requires : tie.Need-splice-requires
-splice-requires c κs = search needs
+copy-piece-requires : tie.Need-copy-piece-requires
+copy-piece-requires c κs = search needs
 
 cast-least : tie.Need-cast-least
 cast-least c = search needs
@@ -58,11 +58,10 @@ in-both-requires c κs = search needs
 
 returns : tie.Need-returns
 returns c =
-    let s = c .before .before .before .before .before .before .before .before .before .before .before .before .before .before in
-    let g = c .before .before .before .before .before .before .before .before .before .before .before .before .before .first-piece .ensures in
-    group-moved (s .pre .0) (s .pre .1) (s .pre .2) (s .pre .4) (picked-all (g .1) (g .0)) (c .before .before .before .before .before .before .before .before .before .before .first-member .ensures) (c .before .before .before .before .before .before .before .before .before .after-last .ensures)
+    let s = c .before .before .before .before .before .before .before .before .before .before .before .before .before .before .before .before .before in
+    group-moved (s .pre .0) (s .pre .1) (s .pre .2) (s .pre .4) (c .before .before .before .before .before .before .before .before .before .before .before .before .before .before .before .first-piece .ensures) (c .before .before .before .before .before .before .before .before .before .before .before .before .before .first-member .ensures) (c .before .before .before .before .before .before .before .before .before .before .before .after-last .ensures)
     (nexts-are (c .before .before .before .up-to .result) (c .before .before .after-spares .result) (c .before .from-on .result) (s .pre .2) (c .before .before .before .up-to .ensures) (c .before .before .after-spares .ensures) (c .before .from-on .ensures) (c .in-both .ensures))
-    (c .before .before .before .before .before .before .before .before .splice .ensures)
+    (c .before .before .before .before .before .before .before .before .copy-piece .ensures)
 
 pub after-group-spec : {M : Type 1} → statement M
 after-group-spec =
@@ -71,7 +70,7 @@ after-group-spec =
     first-piece-requires
     first-member-requires
     after-last-requires
-    splice-requires
+    copy-piece-requires
     cast-least
     cast-least-2
     add-least

@@ -12,28 +12,28 @@ use Rattle.place_masks.proofs.lowest_place.Reads as lowest-place-reads
 lowest-place-requires : tie.Need-lowest-place-requires
 lowest-place-requires c κs = search needs
 
-array-write-w : tie.Need-array-write-w
-array-write-w c = let p = c .before .before .pre .3 _ (c .before .lowest-place .ensures .inside) in omega arith
+element-write-w : tie.Need-element-write-w
+element-write-w c = let p = c .before .pre .3 _ (c .lowest-place .ensures .inside) in omega arith
 
 add-with-place : tie.Need-add-with-place
 add-with-place c = search needs
 
 with-place-requires : tie.Need-with-place-requires
-with-place-requires c κs = let p = c .before .before .pre .3 _ (c .before .lowest-place .ensures .inside) in omega arith
+with-place-requires c κs = let p = c .before .pre .3 _ (c .lowest-place .ensures .inside) in omega arith
 
-add-t10 : tie.Need-add-t10
-add-t10 c = search needs
+add-t9 : tie.Need-add-t9
+add-t9 c = search needs
 
 returns : tie.Need-returns
-returns c = let s = c .before .before .before in λ may ends low lead. one-moved _ (s .pre .0) (s .pre .1) low lead (s .pre .4) (c .before .before .lowest-place .ensures) (c .with-place .ensures)
+returns c = let s = c .before .before in λ may ends low lead. one-moved _ (s .pre .0) (s .pre .1) low lead (s .pre .4) (c .before .lowest-place .ensures) (c .with-place .ensures)
 
 pub after-one-spec : {M : Type 1} → statement M
 after-one-spec =
     tie.close
     (tie.spec
     lowest-place-requires
-    array-write-w
+    element-write-w
     add-with-place
     with-place-requires
-    add-t10
+    add-t9
     returns)

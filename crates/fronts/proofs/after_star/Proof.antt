@@ -21,7 +21,7 @@ in-both-requires : tie.Need-in-both-requires
 in-both-requires c κs = search needs
 
 returns : tie.Need-returns
-returns c = let s = c .before .before .before .before .before in λ may lead. star-moved _ (c .before .after-spares .result) (s .pre .0) (s .pre .1) lead (s .pre .2 .after) (c .before .after-spares .ensures) (c .in-both .ensures) (s .pre .2)
+returns c = let s = c .before .before .before .before in λ may w lead standing. star-moved _ (c .before .after-spares .result) (s .pre .0) (s .pre .1) lead (standing .after) (c .before .after-spares .ensures) (c .in-both .ensures) standing
 
 pub after-star-spec : {M : Type 1} → statement M
 after-star-spec =

@@ -3,7 +3,6 @@ use Rattle.fronts.specs.Given.{Prepares}
 use Rattle.blocks.proofs.LentBlocks.{lent, lent-inside}
 use lib.ListN.{drop, length-replicate, getD-replicate}
 use Prim.Native.Nat.{ℕ, _-_, _≤_}
-use mathlib.Core.Path.{_≡_}
 use mathlib.Core.Bool.{Bool}
 use Rattle.fronts.proofs.LentFronts.{ready-at, step-at, end-at}
 use Rattle.fronts.proofs.Steps.{Underway, underway-start}
@@ -18,10 +17,10 @@ use Rattle.fronts.proofs.after_block.Reads as after-block-reads
 use Rattle.masks.proofs.with_place.Reads as with-place-reads
 
 abbrev Inv-loop : tie.InvT-loop
-Inv-loop rows blocks count ends n f₀ j₀ f j = (j ≤ count) × ((may : ℕ → ℕ → Bool) → Prepares may rows count blocks ends n → Underway may (lent count blocks) (drop j (lent count blocks)) n (f .places) (f .from) (f .w))
+Inv-loop rows blocks count ends n w₀ f₀ j₀ w f j = (j ≤ count) × ((may : ℕ → ℕ → Bool) → Prepares may rows count blocks ends n → Underway may (lent count blocks) (drop j (lent count blocks)) n (f .places) (f .from) w)
 
 abbrev μ-loop : tie.MeasureT-loop
-μ-loop rows blocks count ends n f₀ j₀ f j = count - j
+μ-loop rows blocks count ends n w₀ f₀ j₀ w f j = count - j
 
 with-place-requires : tie.Need-with-place-requires Inv-loop μ-loop
 with-place-requires c κs = omega arith
@@ -40,11 +39,11 @@ element-copy-out-good c = search needs
 
 after-block-requires : tie.Need-after-block-requires Inv-loop μ-loop
 after-block-requires c κs =
-    let l = c .before .before .before in
+    let l = c .before .before .before .before in
     let s = l .before .before in
     let q = s .pre .3 in
     let j = l .loop .j in
-    let b = c .before .block-at .ensures in
+    let b = c .before .before .block-at .ensures in
     let u = l .loop .inv .1 (q .may) (q .prepares) in
     (lent-inside (s .args .count) (s .args .blocks .now) j b (omega arith) (s .pre .2), u .standing, record { may = q .may; n = s .args .n; high = s .pre .1; ready = ready-at (q .prepares) j (omega arith) b u })
 
@@ -56,15 +55,15 @@ loop-less c = omega arith
 
 loop-again : tie.Need-loop-again Inv-loop μ-loop
 loop-again c =
-    let l = c .before .before .before .before in
+    let l = c .before .before .before .before .before in
     let s = l .before .before in
     let j = l .loop .j in
-    let b = c .before .before .block-at .ensures in
+    let b = c .before .before .before .block-at .ensures in
     (omega arith, λ may p. let u = l .loop .inv .1 may p in step-at p j (omega arith) b u (c .after-block .ensures may (s .args .n) (s .pre .1) (ready-at p j (omega arith) b u)))
 
 returns : tie.Need-returns Inv-loop μ-loop
 returns c =
-    let l = c .before .before in
+    let l = c .before in
     let s = l .before .before in
     λ may p. end-at p (l .loop .j) (omega arith) (s .pre .1) (l .loop .inv .1 may p)
 

@@ -11,10 +11,10 @@ use Rattle.places.proofs.after_last.Reads as reads
 use Rattle.places.proofs.after_last.Lts as lts
 
 abbrev Inv-loop : tie.InvT-loop
-Inv-loop from to w p₀ p = (from ≤ p) × (p ≤ to) × ((i : ℕ) → p ≤ i → i < to → getD w i 0 ≡ 255)
+Inv-loop w from to p₀ p = (from ≤ p) × (p ≤ to) × ((i : ℕ) → p ≤ i → i < to → getD w i 0 ≡ 255)
 
 abbrev μ-loop : tie.MeasureT-loop
-μ-loop from to w p₀ p = p
+μ-loop w from to p₀ p = p
 
 loop-holds : tie.Need-loop-holds Inv-loop μ-loop
 loop-holds c = (omega arith, omega arith, λ i l k. absurd (omega arith))
@@ -22,11 +22,11 @@ loop-holds c = (omega arith, omega arith, λ i l k. absurd (omega arith))
 sub-x : tie.Need-sub-x Inv-loop μ-loop
 sub-x c = omega arith
 
-array-read-x : tie.Need-array-read-x Inv-loop μ-loop
-array-read-x c = omega arith
+element-copy-out-x : tie.Need-element-copy-out-x Inv-loop μ-loop
+element-copy-out-x c = omega arith
 
 returns : tie.Need-returns Inv-loop μ-loop
-returns c = let i = c .before .before .loop .inv in record { low = i .0; high = i .1; blank = i .2; last = λ l q. c .if1 .taken q }
+returns c = let i = c .before .before .before .loop .inv in record { low = i .0; high = i .1; blank = i .2; last = λ l q. c .if1 .taken q }
 
 sub-p : tie.Need-sub-p Inv-loop μ-loop
 sub-p c = omega arith
@@ -36,9 +36,9 @@ loop-less c = omega arith
 
 loop-again : tie.Need-loop-again Inv-loop μ-loop
 loop-again c =
-    let i = c .before .before .loop .inv in
-    let p = c .before .before .loop .p in
-    let w = c .before .before .before .args .t1 in (
+    let i = c .before .before .before .loop .inv in
+    let p = c .before .before .before .loop .p in
+    let w = c .before .before .before .before .args .w .now in (
       omega arith,
       omega arith,
       λ j l k. ⊎-elim
@@ -58,7 +58,7 @@ after-last-spec =
     μ-loop
     loop-holds
     sub-x
-    array-read-x
+    element-copy-out-x
     returns
     sub-p
     loop-less

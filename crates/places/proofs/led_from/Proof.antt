@@ -85,7 +85,7 @@ returns : tie.Need-returns
 returns c = let x = c .before .before .before in let s = start x in led-none (s .pre .0) (s .pre .1) (reached x) (c .before .before .first-assignment .ensures) (not-true _ (c .if1 .taken))
 
 after-last-requires : tie.Need-after-last-requires
-after-last-requires c κs = let x = c .before .before .before .before in let s = start x in (order x, s .pre .1 _ (reached x .here))
+after-last-requires c κs = let x = c .before .before .before .before .before in let s = start x in (order x, s .pre .1 _ (reached x .here))
 
 from-on-requires : tie.Need-from-on-requires
 from-on-requires c κs = search needs
@@ -98,7 +98,7 @@ up-to-requires-2 c κs = search needs
 
 returns-2 : tie.Need-returns-2
 returns-2 c =
-    let found = c .before .before .before .before .before in
+    let found = c .before .before .before .before .before .before in
     let x = found .before .before .before in
     let s = start x in
     led-found (s .pre .0) (s .pre .1) (reached x) (c .before .before .from-on .result) (c .before .before-spares .result) (found .before .before .first-assignment .ensures) (not-false _ (found .if1 .left)) (enough x)

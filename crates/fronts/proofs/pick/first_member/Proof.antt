@@ -11,19 +11,19 @@ use Rattle.fronts.proofs.pick.first_member.Reads as reads
 use Rattle.fronts.proofs.pick.first_member.Lts as lts
 
 abbrev Inv-loop : tie.InvT-loop
-Inv-loop from to w p₀ p = (from ≤ p) × (p ≤ to) × ((i : ℕ) → from ≤ i → i < p → getD w i 0 ≡ 255)
+Inv-loop w from to p₀ p = (from ≤ p) × (p ≤ to) × ((i : ℕ) → from ≤ i → i < p → getD w i 0 ≡ 255)
 
 abbrev μ-loop : tie.MeasureT-loop
-μ-loop from to w p₀ p = to - p
+μ-loop w from to p₀ p = to - p
 
 loop-holds : tie.Need-loop-holds Inv-loop μ-loop
 loop-holds c = (omega arith, omega arith, λ i l k. absurd (omega arith))
 
-array-read-x : tie.Need-array-read-x Inv-loop μ-loop
-array-read-x c = omega arith
+element-copy-out-x : tie.Need-element-copy-out-x Inv-loop μ-loop
+element-copy-out-x c = omega arith
 
 returns : tie.Need-returns Inv-loop μ-loop
-returns c = let i = c .before .before .loop .inv in record { low = i .0; high = i .1; blank = i .2; first = λ l q. c .if1 .taken q }
+returns c = let i = c .before .before .before .loop .inv in record { low = i .0; high = i .1; blank = i .2; first = λ l q. c .if1 .taken q }
 
 add-p : tie.Need-add-p Inv-loop μ-loop
 add-p c = omega arith
@@ -33,9 +33,9 @@ loop-less c = omega arith
 
 loop-again : tie.Need-loop-again Inv-loop μ-loop
 loop-again c =
-    let i = c .before .before .loop .inv in
-    let p = c .before .before .loop .p in
-    let w = c .before .before .before .args .t1 in (
+    let i = c .before .before .before .loop .inv in
+    let p = c .before .before .before .loop .p in
+    let w = c .before .before .before .before .args .w .now in (
       omega arith,
       omega arith,
       λ j l k. ⊎-elim
@@ -50,4 +50,13 @@ returns-2 c = let i = c .before .loop .inv in record { low = i .0; high = i .1; 
 pub first-member-spec : {M : Type 1} → statement M
 first-member-spec =
     tie.close
-    (tie.spec Inv-loop μ-loop loop-holds array-read-x returns add-p loop-less loop-again returns-2)
+    (tie.spec
+    Inv-loop
+    μ-loop
+    loop-holds
+    element-copy-out-x
+    returns
+    add-p
+    loop-less
+    loop-again
+    returns-2)

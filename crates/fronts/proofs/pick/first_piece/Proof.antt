@@ -1,4 +1,5 @@
 -- `first_piece` meets its contract. The invariant: the list is the first so far (`Picking`). The measure is how many places are left. Assumes nothing.
+use Rattle.fronts.proofs.Moves.{picked-all}
 use Rattle.fronts.specs.Picks.{Picking}
 use Rattle.rows.specs.Rows.{may}
 use Rattle.facts.specs.Counting.{count}
@@ -12,19 +13,19 @@ use Rattle.fronts.proofs.pick.next.Reads as next-reads
 use Rattle.fronts.proofs.pick.start.Reads as start-reads
 
 abbrev Inv-loop : tie.InvT-loop
-Inv-loop rows b places ends s₀ s = Picking (may rows) b ends places (s .w) (s .to) (s .rest)
+Inv-loop rows b places ends best₀ s₀ best s = Picking (may rows) b ends places best (s .to) (s .rest)
 
 abbrev μ-loop : tie.MeasureT-loop
-μ-loop rows b places ends s₀ s = count (bit (s .rest)) 64
+μ-loop rows b places ends best₀ s₀ best s = count (bit (s .rest)) 64
 
 start-requires : tie.Need-start-requires Inv-loop μ-loop
-start-requires c κs = c .pre
+start-requires c κs = c .before .pre
 
 loop-holds : tie.Need-loop-holds Inv-loop μ-loop
 loop-holds c = c .start .ensures
 
 next-requires : tie.Need-next-requires Inv-loop μ-loop
-next-requires c κs = let p = c .before .before .before .before .pre in (p .0, p .1, p .2, p .3, omega arith, c .before .before .loop .inv)
+next-requires c κs = let l = c .before .before .before in let p = l .before .before .before .pre in (p .0, p .1, p .2, p .3, omega arith, l .loop .inv)
 
 loop-less : tie.Need-loop-less Inv-loop μ-loop
 loop-less c = c .next .ensures .1
@@ -33,7 +34,7 @@ loop-again : tie.Need-loop-again Inv-loop μ-loop
 loop-again c = c .next .ensures .0
 
 returns : tie.Need-returns Inv-loop μ-loop
-returns c = (c .before .before .loop .inv, omega arith)
+returns c = picked-all (omega arith) (c .before .before .loop .inv)
 
 pub first-piece-spec : {M : Type 1} → statement M
 first-piece-spec =

@@ -1,5 +1,4 @@
 -- `next` meets its contract: what is left begins later, and ends further on. Assumes nothing.
-use Prim.Native.Nat.{ℕ, _+_, _≤_, _<_}
 use Rattle.facts.proofs.Cases.{and-left, and-right}
 use Rattle.masks.specs.Masks.{bit}
 use borrow.Author.Tests.{leb-true, not-true, not-false}
@@ -7,6 +6,7 @@ use lib.Dec.{leb}
 use mathlib.Core.Bool.{true, _&&_}
 use mathlib.Core.Path.{_≡_, sym, _∙_}
 use Rattle.fronts.proofs.Picked.{lead-cut, lead-order, pick-skip, pick-keep, pick-change, rest-fewer}
+use Prim.Native.Nat.{ℕ, _+_, _≤_, _<_}
 use Rattle.place_masks.proofs.PlaceBits.{bit-pos}
 use Rattle.rows.specs.Rows.{may}
 use Rattle.places.specs.Ways.{Leads}
@@ -27,7 +27,7 @@ use Rattle.place_masks.proofs.up_to.Reads as up-to-reads
 
 -- ---- what is known after the search for the end
 abbrev begun : tie.After-highest-place → tie.Start
-begun c = c .before .before .before .before .before .before .before
+begun c = c .before .before .before .before .before .before
 
 lead : (c : tie.After-highest-place) → Leads (may (begun c .args .rows .now)) (begun c .args .b) (begun c .args .ends) (c .before .before .before .before .before .lowest-place .result)
 lead c = begun c .pre .3 .each _ (begun c .pre .5 .inside _ (c .before .before .before .before .before .lowest-place .ensures .inside))
@@ -75,7 +75,7 @@ up-to-requires : tie.Need-up-to-requires
 up-to-requires c κs = search needs
 
 highest-place-requires : tie.Need-highest-place-requires
-highest-place-requires c κs = lead-cut (c .up-to .result) (c .before .before .before .before .before .before .pre .3 .each _ (c .before .before .before .before .before .before .pre .5 .inside _ (c .before .before .before .before .lowest-place .ensures .inside))) (c .up-to .ensures)
+highest-place-requires c κs = lead-cut (c .up-to .result) (c .before .before .before .before .before .pre .3 .each _ (c .before .before .before .before .before .pre .5 .inside _ (c .before .before .before .before .lowest-place .ensures .inside))) (c .up-to .ensures)
 
 returns : tie.Need-returns
 returns c =
@@ -97,26 +97,26 @@ comes-before-requires c κs = search needs
 
 returns-2 : tie.Need-returns-2
 returns-2 c =
-    let x = c .before .before .before .before .before .before in
+    let x = c .before .before .before .before .before .before .before .before in
     let s = begun x in (
-      pick-keep (s .pre .5) (x .before .before .before .before .before .lowest-place .ensures) (far x) (s .pre .0) (s .pre .1) (s .pre .2) (lead x) (c .before .before .before .first-assignment .ensures) (omega arith) (sym (c .before .comes-before .ensures) ∙ not-true _ (c .if2 .taken))
+      pick-keep (s .pre .5) (x .before .before .before .before .before .lowest-place .ensures) (far x) (s .pre .0) (s .pre .1) (s .pre .2) (lead x) (c .before .before .before .before .before .first-assignment .ensures) (omega arith) (sym (c .before .comes-before .ensures) ∙ not-true _ (c .if2 .taken))
           (x .before .before .before .before .from-on .ensures),
       rest-fewer _ (x .before .before .before .before .before .lowest-place .ensures) (after x),
     )
 
 first-member-requires : tie.Need-first-member-requires
-first-member-requires c κs = let x = c .before .before .before .before .before .before in (order x, high x)
+first-member-requires c κs = let x = c .before .before .before .before .before .before .before .before .before in (order x, high x)
 
 up-to-requires-2 : tie.Need-up-to-requires-2
 up-to-requires-2 c κs = search needs
 
 returns-3 : tie.Need-returns-3
 returns-3 c =
-    let x = c .before .before .before .before .before .before .before .before in
+    let x = c .before .before .before .before .before .before .before .before .before .before .before in
     let s = begun x in
     let rest = x .before .before .before .before .from-on .result in
     let head = c .before .first-member .result in (
-      pick-change (s .pre .5) (x .before .before .before .before .before .lowest-place .ensures) (far x) (s .pre .0) (s .pre .1) (s .pre .2) (lead x) (c .before .before .before .before .before .first-assignment .ensures) (omega arith) rest (sym (c .before .before .before .comes-before .ensures) ∙ not-false _ (c .before .before .if2 .left))
+      pick-change (s .pre .5) (x .before .before .before .before .before .lowest-place .ensures) (far x) (s .pre .0) (s .pre .1) (s .pre .2) (lead x) (c .before .before .before .before .before .before .before .before .first-assignment .ensures) (omega (arith, c .before .before .before .before .before .before .before .before .before .if1 .left)) rest (sym (c .before .before .before .before .comes-before .ensures) ∙ not-false _ (c .before .before .before .if2 .left))
           (c .before .first-member .ensures) (x .before .before .before .before .from-on .ensures) (c .up-to2 .ensures),
       rest-fewer _ (x .before .before .before .before .before .lowest-place .ensures) (λ e h. after x e (and-right (leb e head) (bit rest e) (sym (c .up-to2 .ensures e) ∙ h))),
     )

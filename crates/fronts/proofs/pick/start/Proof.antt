@@ -1,7 +1,7 @@
 -- `start` meets its contract: the search serves every later place and every nearer end. Assumes nothing.
-use Prim.Native.Nat.{_+_, _≤_}
-use native.Mathlib.Omega.{arith}
 use Rattle.fronts.proofs.Picked.{lead-cut, lead-order, pick-start}
+use native.Mathlib.Omega.{arith}
+use Prim.Native.Nat.{_+_, _≤_}
 use Rattle.place_masks.proofs.PlaceBits.{bit-pos}
 use Rattle.rows.specs.Rows.{may}
 use Rattle.places.specs.Ways.{Leads}
@@ -65,7 +65,7 @@ first-assignment-requires : tie.Need-first-assignment-requires
 first-assignment-requires c κs = (begun c .pre .0, order c, high c)
 
 first-member-requires : tie.Need-first-member-requires
-first-member-requires c κs = let x = c .before .before in (order x, high x)
+first-member-requires c κs = let x = c .before .before .before in (order x, high x)
 
 add-from-on : tie.Need-add-from-on
 add-from-on c = search needs
@@ -78,9 +78,9 @@ up-to-requires-2 c κs = search needs
 
 returns : tie.Need-returns
 returns c =
-    let x = c .before .before .before .before .before in
+    let x = c .before .before .before .before .before .before in
     let s = begun x in
-    pick-start (s .pre .0) (s .pre .1) (s .pre .2) (x .before .before .before .before .lowest-place .ensures) (lead x) (far x) (c .before .before .before .before .first-assignment .ensures) (c .before .from-on .result) (c .before .before .first-member .ensures) (c .before .from-on .ensures) (c .up-to2 .ensures)
+    pick-start (s .pre .0) (s .pre .1) (s .pre .2) (x .before .before .before .before .lowest-place .ensures) (lead x) (far x) (c .before .before .before .before .before .first-assignment .ensures) (c .before .from-on .result) (c .before .before .first-member .ensures) (c .before .from-on .ensures) (c .up-to2 .ensures)
 
 pub start-spec : {M : Type 1} → statement M
 start-spec =
