@@ -8,11 +8,11 @@ use Rattle.forms.proofs.form_length.Kinds as form-length-kinds
 use Rattle.forms.proofs.put_form.Reads as put-form
 use Rattle.forms.proofs.put_form.Kinds as put-form-kinds
 
-pub form-length-unique : (κs : Lfts 0) (a : Dens κs form-length-kinds.ps) (r r′ : resT form-length-kinds.r κs .Denot) (s s′ : AtExit (endedOf 0 form-length-kinds.ps form-length-kinds.r) κs)
+pub form-length-unique : (κs : Lfts 2) (a : Dens κs form-length-kinds.ps) (r r′ : resT form-length-kinds.r κs .Denot) (s s′ : AtExit (endedOf 2 form-length-kinds.ps form-length-kinds.r) κs)
     → form-length.Post κs a r s → form-length.Post κs a r′ s′ → r ≡ r′
 form-length-unique κs a r r′ s s′ p q = p ∙ sym q
 
 -- every byte of the part that was lent
-pub put-form-unique : (κs : Lfts 1) (a : Dens κs put-form-kinds.ps) (r r′ : resT put-form-kinds.r κs .Denot) (s s′ : AtExit (endedOf 1 put-form-kinds.ps put-form-kinds.r) κs)
+pub put-form-unique : (κs : Lfts 3) (a : Dens κs put-form-kinds.ps) (r r′ : resT put-form-kinds.r κs .Denot) (s s′ : AtExit (endedOf 3 put-form-kinds.ps put-form-kinds.r) κs)
     → put-form.Post κs a r s → put-form.Post κs a r′ s′ → s .0 .now ≡ s′ .0 .now
 put-form-unique κs a r r′ s s′ p q = p ∙ sym q

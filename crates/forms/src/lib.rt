@@ -5,7 +5,7 @@ ghost use Prim.Native.Nat.{_+_, _<_, _≤_};
 ghost use lib.ListN.{length, drop};
 ghost use Rattle.integers.specs.Integer.{intBytes};
 ghost use Rattle.ranges.specs.Spans.{span};
-ghost use Rattle.ranges.specs.Shown.{spans};
+ghost use Rattle.ranges.specs.Shown.{view, Few};
 ghost use Rattle.forms.specs.Form.{recordOf, records, matchedForm, unmatchedForm, recordLength, recordsLength, matchedLength, unmatchedLength, sideForm, sideLength};
 use format::ANY;
 use format::ANY_SIZE;
@@ -18,7 +18,6 @@ use format::SINGLE;
 use format::SINGLE_SIZE;
 use integers::put_int;
 use integers::same;
-use ranges::Ranges;
 
 // The record of one integer, at the front of `out`.
 fn put_single(out: &mut [u8], x: i32)
@@ -62,76 +61,73 @@ fn put_record(out: &mut [u8], lower: i32, upper: i32)
     }
 }
 
-// How many bytes the records of s have.
-fn records_length(s: Ranges) -> usize
-    requires { ⌜ s .n < 130 ⌝ }
-    ensures { λ r. ⌜ r ≡ recordsLength (spans s) ⌝ }
+// How many bytes the records of the first n ranges have.
+fn records_length(lo: &[i32], hi: &[i32], n: usize) -> usize
+    requires { ⌜ Few n (now lo) (now hi) ⌝ }
+    ensures { λ r. ⌜ r ≡ recordsLength (view n (now (lo .entry)) (now (hi .entry))) ⌝ }
 {
-    let n = s.n;
     let mut length: usize = 0;
     let mut k: usize = 0;
     while k < n {
-        let a = s.lo[k];
-        let b = s.hi[k];
+        let a = lo[k];
+        let b = hi[k];
         length += record_length(a, b);
         k += 1;
     }
     length
 }
 
-// The records of s, at the front of `out`.
-fn put_records(out: &mut [u8], s: Ranges)
-    requires { ⌜ (s .n < 130) × (recordsLength (spans s) ≤ length (now out)) ⌝ }
-    ensures { λ _. ⌜ now (out .exit) ≡ records (spans s) ++ drop (recordsLength (spans s)) (now (out .entry)) ⌝ }
+// The records of the first n ranges, at the front of `out`.
+fn put_records(out: &mut [u8], lo: &[i32], hi: &[i32], n: usize)
+    requires { ⌜ Few n (now lo) (now hi) × (recordsLength (view n (now lo) (now hi)) ≤ length (now out)) ⌝ }
+    ensures { λ _. ⌜ now (out .exit) ≡ records (view n (now (lo .entry)) (now (hi .entry))) ++ drop (recordsLength (view n (now (lo .entry)) (now (hi .entry)))) (now (out .entry)) ⌝ }
 {
-    let n = s.n;
     let mut p: usize = 0;
     let mut k: usize = 0;
     while k < n {
-        let a = s.lo[k];
-        let b = s.hi[k];
+        let a = lo[k];
+        let b = hi[k];
         put_record(&mut out[p..], a, b);
         p += record_length(a, b);
         k += 1;
     }
 }
 
-// A list or a complement of the ranges of s, at the front of `out`.
-fn put_group(out: &mut [u8], kind: u8, s: Ranges)
-    requires { ⌜ (s .n < 130) × (2 + recordsLength (spans s) ≤ length (now out)) ⌝ }
-    ensures { λ _. ⌜ now (out .exit) ≡ kind ∷ s .n ∷ (records (spans s) ++ drop (2 + recordsLength (spans s)) (now (out .entry))) ⌝ }
+// A list or a complement of n ranges, at the front of `out`.
+fn put_group(out: &mut [u8], kind: u8, lo: &[i32], hi: &[i32], n: usize)
+    requires { ⌜ Few n (now lo) (now hi) × (2 + recordsLength (view n (now lo) (now hi)) ≤ length (now out)) ⌝ }
+    ensures { λ _. ⌜ now (out .exit) ≡ kind ∷ n ∷ (records (view n (now (lo .entry)) (now (hi .entry))) ++ drop (2 + recordsLength (view n (now (lo .entry)) (now (hi .entry)))) (now (out .entry))) ⌝ }
 {
     out[0] = kind;
-    out[1] = s.n as u8;
-    put_records(&mut out[COUNT_SIZE..], s);
+    out[1] = n as u8;
+    put_records(&mut out[COUNT_SIZE..], lo, hi, n);
 }
 
 // How many bytes the form has that is written from the integers matched.
-fn matched_length(s: Ranges) -> usize
-    requires { ⌜ s .n < 130 ⌝ }
-    ensures { λ r. ⌜ r ≡ matchedLength (spans s) ⌝ }
+fn matched_length(lo: &[i32], hi: &[i32], n: usize) -> usize
+    requires { ⌜ Few n (now lo) (now hi) ⌝ }
+    ensures { λ r. ⌜ r ≡ matchedLength (view n (now (lo .entry)) (now (hi .entry))) ⌝ }
 {
-    let n = s.n;
     if n == 0 {
         return COUNT_SIZE + ANY_SIZE;
     }
     if n == 1 {
-        let a = s.lo[0];
-        let b = s.hi[0];
+        let a = lo[0];
+        let b = hi[0];
         return record_length(a, b);
     }
-    COUNT_SIZE + records_length(s)
+    COUNT_SIZE + records_length(lo, hi, n)
 }
 
 // How many bytes the form has that is written from the integers not matched.
-fn unmatched_length(s: Ranges) -> usize
-    requires { ⌜ s .n < 130 ⌝ }
-    ensures { λ r. ⌜ r ≡ unmatchedLength (spans s) ⌝ }
+fn unmatched_length(lo: &[i32], hi: &[i32], n: usize) -> usize
+    requires { ⌜ Few n (now lo) (now hi) ⌝ }
+    ensures { λ r. ⌜ r ≡ unmatchedLength (view n (now (lo .entry)) (now (hi .entry))) ⌝ }
 {
-    if s.n == 0 {
+    if n == 0 {
         return ANY_SIZE;
     }
-    COUNT_SIZE + records_length(s)
+    COUNT_SIZE + records_length(lo, hi, n)
 }
 
 // The form of no integer at all, at the front of `out`: a complement of any value.
@@ -145,54 +141,53 @@ fn put_nothing(out: &mut [u8])
 }
 
 // The form from the integers matched, at the front of `out`.
-fn put_matched(out: &mut [u8], s: Ranges)
-    requires { ⌜ (s .n < 130) × (matchedLength (spans s) ≤ length (now out)) ⌝ }
-    ensures { λ _. ⌜ now (out .exit) ≡ matchedForm (spans s) ++ drop (matchedLength (spans s)) (now (out .entry)) ⌝ }
+fn put_matched(out: &mut [u8], lo: &[i32], hi: &[i32], n: usize)
+    requires { ⌜ Few n (now lo) (now hi) × (matchedLength (view n (now lo) (now hi)) ≤ length (now out)) ⌝ }
+    ensures { λ _. ⌜ now (out .exit) ≡ matchedForm (view n (now (lo .entry)) (now (hi .entry))) ++ drop (matchedLength (view n (now (lo .entry)) (now (hi .entry)))) (now (out .entry)) ⌝ }
 {
-    let n = s.n;
     if n == 0 {
         put_nothing(out);
     } else if n == 1 {
-        let a = s.lo[0];
-        let b = s.hi[0];
+        let a = lo[0];
+        let b = hi[0];
         put_record(out, a, b);
     } else {
-        put_group(out, LIST, s);
+        put_group(out, LIST, lo, hi, n);
     }
 }
 
 // The form from the integers not matched, at the front of `out`.
-fn put_unmatched(out: &mut [u8], s: Ranges)
-    requires { ⌜ (s .n < 130) × (unmatchedLength (spans s) ≤ length (now out)) ⌝ }
-    ensures { λ _. ⌜ now (out .exit) ≡ unmatchedForm (spans s) ++ drop (unmatchedLength (spans s)) (now (out .entry)) ⌝ }
+fn put_unmatched(out: &mut [u8], lo: &[i32], hi: &[i32], n: usize)
+    requires { ⌜ Few n (now lo) (now hi) × (unmatchedLength (view n (now lo) (now hi)) ≤ length (now out)) ⌝ }
+    ensures { λ _. ⌜ now (out .exit) ≡ unmatchedForm (view n (now (lo .entry)) (now (hi .entry))) ++ drop (unmatchedLength (view n (now (lo .entry)) (now (hi .entry)))) (now (out .entry)) ⌝ }
 {
-    if s.n == 0 {
+    if n == 0 {
         out[0] = ANY;
     } else {
-        put_group(out, COMPLEMENT, s);
+        put_group(out, COMPLEMENT, lo, hi, n);
     }
 }
 
-// How many bytes the form has that is written from s: from the integers not matched, or from those matched.
-pub fn form_length(outside: bool, s: Ranges) -> usize
-    requires { ⌜ s .n < 130 ⌝ }
-    ensures { λ r. ⌜ r ≡ sideLength outside (spans s) ⌝ }
+// How many bytes the form has that is written from n ranges: from the integers not matched, or from those matched.
+pub fn form_length(outside: bool, lo: &[i32], hi: &[i32], n: usize) -> usize
+    requires { ⌜ Few n (now lo) (now hi) ⌝ }
+    ensures { λ r. ⌜ r ≡ sideLength outside (view n (now (lo .entry)) (now (hi .entry))) ⌝ }
 {
     if outside {
-        unmatched_length(s)
+        unmatched_length(lo, hi, n)
     } else {
-        matched_length(s)
+        matched_length(lo, hi, n)
     }
 }
 
-// The form that is written from s, at the front of `out`.
-pub fn put_form(out: &mut [u8], outside: bool, s: Ranges)
-    requires { ⌜ (s .n < 130) × (sideLength outside (spans s) ≤ length (now out)) ⌝ }
-    ensures { λ _. ⌜ now (out .exit) ≡ sideForm outside (spans s) ++ drop (sideLength outside (spans s)) (now (out .entry)) ⌝ }
+// The form that is written from n ranges, at the front of `out`.
+pub fn put_form(out: &mut [u8], outside: bool, lo: &[i32], hi: &[i32], n: usize)
+    requires { ⌜ Few n (now lo) (now hi) × (sideLength outside (view n (now lo) (now hi)) ≤ length (now out)) ⌝ }
+    ensures { λ _. ⌜ now (out .exit) ≡ sideForm outside (view n (now (lo .entry)) (now (hi .entry))) ++ drop (sideLength outside (view n (now (lo .entry)) (now (hi .entry)))) (now (out .entry)) ⌝ }
 {
     if outside {
-        put_unmatched(out, s);
+        put_unmatched(out, lo, hi, n);
     } else {
-        put_matched(out, s);
+        put_matched(out, lo, hi, n);
     }
 }

@@ -1,73 +1,67 @@
-// The integers that an element template matches, from its bytes.
-ghost use Rattle.normal.specs.Contract.{Here, SetHere, Members, SetAny};
+// The ranges of the integers that an element template matches, gathered in two lent arrays. The walk goes on from one number, and answers by one: the
+// place after what it read and, ONE_MORE for each, the ranges that stand in the arrays.
+ghost use mathlib.Core.List.{[]};
+ghost use Prim.Native.Nat.{_<_};
+ghost use lib.ListN.{length};
+ghost use Rattle.ranges.specs.Shown.{view, Became};
+ghost use Rattle.ranges.specs.Spans.{Proper, joinAll, gaps as gapsOf};
+ghost use Rattle.normal.specs.Contract.{HereFrom, MembersFrom, GatheredHere, GatheredAll};
 use elements::leaf::bounds_at;
-use format::COMPLEMENT;
 use format::COUNT_SIZE;
 use format::LIST;
-use ranges::Ranges;
-use ranges::empty;
+use format::ONE_MORE;
 use ranges::gaps;
-use ranges::one;
-use sweeping::append;
 use sweeping::swept;
 
-// A set, and the place after the element template that it belongs to.
-pub struct Found {
-    pub set: Ranges,
-    pub next: usize,
+// What the first n ranges, in any order, leave out, in their place.
+fn left_out(lo: &mut [i32], hi: &mut [i32], n: usize) -> usize
+    requires { ⌜ (n < length (now lo)) × (n < length (now hi)) × Proper (view n (now lo) (now hi)) ⌝ }
+    ensures { λ r. ⌜ Became (now (lo .entry)) (now (hi .entry)) (now (lo .exit)) (now (hi .exit)) r (gapsOf (joinAll (view n (now (lo .entry)) (now (hi .entry))) [])) ⌝ }
+{
+    let m = swept(lo, hi, n);
+    gaps(lo, hi, m)
 }
 
-// The integers that at least one of the n element templates at `at` matches; `left` depths are left. The ranges of all of them are
-// gathered first, and swept once.
-fn any_of(t: &[u8], at: usize, n: usize, left: usize) -> Found
-    requires { ⌜ Members (now t) at n left ⌝ }
-    ensures { λ r. ⌜ SetAny (now (t .entry)) at n left (r .set) (r .next) ⌝ }
+// The ranges of the n element templates after `from`, in any order, after those that stand there; `left` depths are left. A leaf is read
+// here; what has members is a call.
+fn any_of(t: &[u8], from: usize, n: usize, left: usize, lo: &mut [i32], hi: &mut [i32]) -> usize
+    requires { ⌜ MembersFrom (now t) from n left (now lo) (now hi) ⌝ }
+    ensures { λ r. ⌜ GatheredAll (now (t .entry)) from n left (now (lo .entry)) (now (hi .entry)) (now (lo .exit)) (now (hi .exit)) r ⌝ }
 {
-    let mut gathered = empty();
-    let mut p = at;
+    let mut s = from;
     let mut more = n;
     while 0 < more {
+        let p = s % ONE_MORE;
         let kind = t[p];
         if kind < LIST {
             let l = bounds_at(t, p);
             let a = l.lower;
             let b = l.upper;
-            let w = gathered.n;
-            gathered.lo[w] = a;
-            gathered.hi[w] = b;
-            gathered.n = w + 1;
-            p = l.next;
+            let w = s / ONE_MORE;
+            lo[w] = a;
+            hi[w] = b;
+            s = (w + 1) * ONE_MORE + l.next;
         } else {
-            let w = set_of(t, p, left);
-            let s = w.set;
-            gathered = append(gathered, s);
-            p = w.next;
+            s = set_of(t, s, left, lo, hi);
         }
         more -= 1;
     }
-    let set = swept(gathered);
-    Found { set, next: p }
+    s
 }
 
-// The integers that the element template at `at` matches; `left` depths are left.
-pub fn set_of(t: &[u8], at: usize, left: usize) -> Found
-    requires { ⌜ Here (now t) at left ⌝ }
-    ensures { λ r. ⌜ SetHere (now (t .entry)) at left (r .set) (r .next) ⌝ }
+// The same of the list or the complement after `from`. The members of a list are gathered; those of a complement are swept in their place,
+// and turned to the gaps between them.
+pub fn set_of(t: &[u8], from: usize, left: usize, lo: &mut [i32], hi: &mut [i32]) -> usize
+    requires { ⌜ HereFrom (now t) from left (now lo) (now hi) ⌝ }
+    ensures { λ r. ⌜ GatheredHere (now (t .entry)) from left (now (lo .entry)) (now (hi .entry)) (now (lo .exit)) (now (hi .exit)) r ⌝ }
 {
+    let at = from % ONE_MORE;
+    let r = any_of(t, from + COUNT_SIZE, t[at + 1] as usize, left - 1, lo, hi);
     let kind = t[at];
     if kind == LIST {
-        // Taken apart and made anew: handed on whole, it costs a leaf by itself a copy too.
-        let w = any_of(t, at + COUNT_SIZE, t[at + 1] as usize, left - 1);
-        let set = w.set;
-        return Found { set, next: w.next };
+        return r;
     }
-    if kind == COMPLEMENT {
-        let w = any_of(t, at + COUNT_SIZE, t[at + 1] as usize, left - 1);
-        let s = w.set;
-        let set = gaps(s);
-        return Found { set, next: w.next };
-    }
-    let l = bounds_at(t, at);
-    let set = one(l.lower, l.upper);
-    Found { set, next: l.next }
+    let n = from / ONE_MORE;
+    let g = left_out(&mut lo[n..], &mut hi[n..], r / ONE_MORE - n);
+    (n + g) * ONE_MORE + r % ONE_MORE
 }

@@ -1,62 +1,58 @@
 -- `forms::put_matched` meets its contract: by the number of ranges, as the definition. Assumes nothing.
 use mathlib.Core.Path.{_≡_, ap, _∙_}
-use mathlib.Core.List.{[], _∷_, _++_}
+use mathlib.Core.List.{List, [], _∷_, _++_}
 use Prim.Native.Nat.{ℕ, _+_}
 use native.Mathlib.Omega.{arith}
 use lib.IntN.{ℤ, pos}
 use lib.ListN.{length, getD, drop}
 use borrow.Author.Needs.{needs}
-use Rattle.ranges.specs.Shown.{spans}
-use Rattle.ranges.specs.Spans.{span}
+use Rattle.ranges.specs.Shown.{view}
+use Rattle.ranges.specs.Spans.{Span, span}
 use Rattle.integers.proofs.SignedLocals.{again-same}
 use Rattle.ranges.proofs.Views.{length-view}
-use Rattle.ranges.specs.declared.Ranges.{Ranges}
 use Rattle.forms.specs.Form.{recordOf, records, matchedForm, recordLength, recordsLength, matchedLength}
 use Rattle.forms.proofs.Records.{view-none, view-one, matched-none, matched-one, matched-more, form-put, several}
 use Rattle.forms.proofs.put_matched.Statement.{statement}
 use Rattle.forms.proofs.put_matched.Tie as tie
 
 module _ (c : tie.Start) where
-  abbrev s : Ranges
-  s = c .args .t2
+  abbrev n : ℕ
+  n = c .args .n
 
-  long-lo : length (s .lo) ≡ 130
-  long-lo = search needs
-
-  long-hi : length (s .hi) ≡ 130
-  long-hi = search needs
+  abbrev s : List Span
+  s = view n (c .args .lo .now) (c .args .hi .now)
 
   -- as many ranges as are counted
-  size : length (spans s) ≡ s .n
-  size = length-view (s .n) (s .lo) (s .hi) (omega (arith, long-lo, c .pre .0)) (omega (arith, long-hi, c .pre .0))
+  size : length s ≡ n
+  size = length-view _ _ _ (c .pre .0 .1) (c .pre .0 .2)
 
-  none-there : s .n ≡ 0 → spans s ≡ []
-  none-there e = view-none (s .n) (s .lo) (s .hi) e
+  none-there : n ≡ 0 → s ≡ []
+  none-there e = view-none _ _ _ e
 
   abbrev a : ℤ
-  a = getD (s .lo) 0 (pos 0)
+  a = getD (c .args .lo .now) 0 (pos 0)
 
   abbrev b : ℤ
-  b = getD (s .hi) 0 (pos 0)
+  b = getD (c .args .hi .now) 0 (pos 0)
 
-  one-there : s .n ≡ 1 → (matchedLength (spans s) ≡ recordLength (span a b)) × (matchedForm (spans s) ≡ recordOf (span a b))
-  one-there e = matched-one (spans s) (span a b) (view-one (s .n) (s .lo) (s .hi) e (omega (arith, long-lo, c .pre .0)) (omega (arith, long-hi, c .pre .0)))
+  one-there : n ≡ 1 → (matchedLength s ≡ recordLength (span a b)) × (matchedForm s ≡ recordOf (span a b))
+  one-there e = matched-one s (span a b) (view-one _ _ _ e (c .pre .0 .1) (c .pre .0 .2))
 
-  more-there : (s .n ≡ 0 → ⊥) → (s .n ≡ 1 → ⊥) → (matchedLength (spans s) ≡ 2 + recordsLength (spans s)) × (matchedForm (spans s) ≡ 0x04 ∷ s .n ∷ records (spans s))
+  more-there : (n ≡ 0 → ⊥) → (n ≡ 1 → ⊥) → (matchedLength s ≡ 2 + recordsLength s) × (matchedForm s ≡ 0x04 ∷ n ∷ records s)
   more-there z o =
-      let m = matched-more (spans s) (several (s .n) (length (spans s)) size z o) in
-      (m .0, m .1 ∙ ap (λ (n : ℕ). 0x04 ∷ n ∷ records (spans s)) size)
+      let m = matched-more s (several n (length s) size z o) in
+      (m .0, m .1 ∙ ap (λ (m : ℕ). 0x04 ∷ m ∷ records s) size)
 
 put-nothing-requires : tie.Need-put-nothing-requires
 put-nothing-requires c κs =
     let u = c .before .before .before in
-    omega (arith, u .pre .1, matched-none (spans (s u)) (none-there u (c .before .if1 .taken)) .0)
+    omega (arith, u .pre .1, matched-none (s u) (none-there u (c .before .if1 .taken)) .0)
 
-element-copy-out-a : tie.Need-element-copy-out-a
-element-copy-out-a c = search needs
+shared-slice-copy-out-a : tie.Need-shared-slice-copy-out-a
+shared-slice-copy-out-a c = search needs
 
-element-copy-out-b : tie.Need-element-copy-out-b
-element-copy-out-b c = search needs
+shared-slice-copy-out-b : tie.Need-shared-slice-copy-out-b
+shared-slice-copy-out-b c = search needs
 
 put-record-requires : tie.Need-put-record-requires
 put-record-requires c κs =
@@ -74,7 +70,7 @@ same-length c = search needs
 returns : tie.Need-returns
 returns c =
     let u = c .before .before .before .before .before .before in
-    let m = matched-none (spans (s u)) (none-there u (c .before .before .before .before .if1 .taken)) in
+    let m = matched-none (s u) (none-there u (c .before .before .before .before .if1 .taken)) in
     form-put _ (u .args .out .now) _ _ _ _ (m .1) (m .0) (c .before .before .put-nothing .ensures)
 
 same-length-2 : tie.Need-same-length-2
@@ -102,8 +98,8 @@ put-matched-spec =
     tie.close
     (tie.spec
     put-nothing-requires
-    element-copy-out-a
-    element-copy-out-b
+    shared-slice-copy-out-a
+    shared-slice-copy-out-b
     put-record-requires
     put-group-requires
     same-length

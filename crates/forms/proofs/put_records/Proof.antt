@@ -8,65 +8,70 @@ use native.Mathlib.Numerals.{add-one}
 use lib.IntN.{ℤ, pos}
 use lib.ListN.{length, getD, take, drop}
 use borrow.Author.Needs.{needs}
-use Rattle.ranges.specs.Shown.{spans}
+use Rattle.ranges.specs.Shown.{view}
 use Rattle.ranges.specs.Spans.{Span, span}
 use Rattle.integers.proofs.SignedLocals.{again-same}
 use Rattle.ranges.proofs.Views.{view-end, view-at}
-use Rattle.ranges.specs.declared.Ranges.{Ranges}
 use Rattle.forms.specs.Form.{recordOf, recordLength}
 use Rattle.forms.proofs.Records.{Going, going-start, going-room, going-lent, going-step, going-end}
 use Rattle.forms.proofs.put_records.Statement.{statement}
 use Rattle.forms.proofs.put_records.Tie as tie
 
 abbrev Inv-loop : tie.InvT-loop
-Inv-loop out₀ s n p₀ k₀ out p k = (k ≤ s .n) × Going out₀ out p (drop k (spans s)) (spans s)
+Inv-loop out₀ lo hi n p₀ k₀ out p k = (k ≤ n) × Going out₀ out p (drop k (view n lo hi)) (view n lo hi)
 
 abbrev μ-loop : tie.MeasureT-loop
-μ-loop out₀ s n p₀ k₀ out p k = n - k
+μ-loop out₀ lo hi n p₀ k₀ out p k = n - k
 
 loop-holds : tie.Need-loop-holds Inv-loop μ-loop
-loop-holds c = (omega arith, going-start (c .before .args .out .now) (spans (c .before .args .t2)))
+loop-holds c = (omega arith, going-start (c .before .args .out .now) (view (c .before .args .n) (c .before .args .lo .now) (c .before .args .hi .now)))
 
 -- a turn: the range that is looked at
-abbrev S : tie.In-loop Inv-loop μ-loop → Ranges
-S c = c .before .before .before .args .t2
+abbrev Los : tie.In-loop Inv-loop μ-loop → List ℤ
+Los c = c .before .before .before .args .lo .now
+
+abbrev His : tie.In-loop Inv-loop μ-loop → List ℤ
+His c = c .before .before .before .args .hi .now
+
+abbrev N : tie.In-loop Inv-loop μ-loop → ℕ
+N c = c .before .before .before .args .n
+
+abbrev All : tie.In-loop Inv-loop μ-loop → List Span
+All c = view (N c) (Los c) (His c)
 
 abbrev K : tie.In-loop Inv-loop μ-loop → ℕ
 K c = c .before .loop .k
 
 abbrev A : tie.In-loop Inv-loop μ-loop → ℤ
-A c = getD (S c .lo) (K c) (pos 0)
+A c = getD (Los c) (K c) (pos 0)
 
 abbrev B : tie.In-loop Inv-loop μ-loop → ℤ
-B c = getD (S c .hi) (K c) (pos 0)
+B c = getD (His c) (K c) (pos 0)
 
 abbrev Rest : tie.In-loop Inv-loop μ-loop → List Span
-Rest c = drop (suc (K c)) (spans (S c))
+Rest c = drop (suc (K c)) (All c)
 
-parted : (c : tie.In-loop Inv-loop μ-loop) → drop (K c) (spans (S c)) ≡ span (A c) (B c) ∷ Rest c
-parted c =
-    let p : S c .n < length (S c .lo) = search needs in
-    let q : S c .n < length (S c .hi) = search needs in
-    view-at (S c .n) (S c .lo) (S c .hi) (K c) (omega arith) (omega arith) (omega arith)
+parted : (c : tie.In-loop Inv-loop μ-loop) → drop (K c) (All c) ≡ span (A c) (B c) ∷ Rest c
+parted c = view-at (N c) (Los c) (His c) (K c) (c .loop-test .taken) (c .before .before .before .pre .0 .1) (c .before .before .before .pre .0 .2)
 
-going : (c : tie.In-loop Inv-loop μ-loop) → Going (c .before .before .before .args .out .now) (c .before .loop .out) (c .before .loop .p) (span (A c) (B c) ∷ Rest c) (spans (S c))
+going : (c : tie.In-loop Inv-loop μ-loop) → Going (c .before .before .before .args .out .now) (c .before .loop .out) (c .before .loop .p) (span (A c) (B c) ∷ Rest c) (All c)
 going c =
-    subst (λ (rs : List Span). Going (c .before .before .before .args .out .now) (c .before .loop .out) (c .before .loop .p) rs (spans (S c))) (parted c) (c .before .loop .inv .1)
+    subst (λ (rs : List Span). Going (c .before .before .before .args .out .now) (c .before .loop .out) (c .before .loop .p) rs (All c)) (parted c) (c .before .loop .inv .1)
 
 room : (c : tie.In-loop Inv-loop μ-loop) → c .before .loop .p + recordLength (span (A c) (B c)) ≤ length (c .before .loop .out)
 room c = going-room _ _ _ _ _ _ (c .before .before .before .pre .1) (going c)
 
 mul-a : tie.Need-mul-a Inv-loop μ-loop
-mul-a c = omega arith
+mul-a c = search needs
 
-element-copy-out-a : tie.Need-element-copy-out-a Inv-loop μ-loop
-element-copy-out-a c = omega arith
+shared-slice-copy-out-a : tie.Need-shared-slice-copy-out-a Inv-loop μ-loop
+shared-slice-copy-out-a c = omega arith
 
 mul-b : tie.Need-mul-b Inv-loop μ-loop
-mul-b c = omega arith
+mul-b c = search needs
 
-element-copy-out-b : tie.Need-element-copy-out-b Inv-loop μ-loop
-element-copy-out-b c = omega arith
+shared-slice-copy-out-b : tie.Need-shared-slice-copy-out-b Inv-loop μ-loop
+shared-slice-copy-out-b c = omega arith
 
 sub-put-record : tie.Need-sub-put-record Inv-loop μ-loop
 sub-put-record c = omega (arith, room (c .before .before))
@@ -120,10 +125,8 @@ same-length c = c .before .loop .inv .1 .size
 returns : tie.Need-returns Inv-loop μ-loop
 returns c =
     let l = c .before .loop in
-    let s = c .before .before .before .args .t2 in
-    let p : s .n < length (s .lo) = search needs in
-    let q : s .n < length (s .hi) = search needs in
-    let e : drop (l .k) (spans s) ≡ [] = view-end (s .n) (s .lo) (s .hi) (l .k) (omega arith) (omega arith) (omega arith) in
+    let s = c .before .before .before in
+    let e : drop (l .k) (view (s .args .n) (s .args .lo .now) (s .args .hi .now)) ≡ [] = view-end _ _ _ (l .k) (omega (arith, c .loop-test .left)) (s .pre .0 .1) (s .pre .0 .2) in
     going-end _ _ _ _ _ e (l .inv .1)
 
 pub put-records-spec : {M : Type 1} → statement M
@@ -134,9 +137,9 @@ put-records-spec =
     μ-loop
     loop-holds
     mul-a
-    element-copy-out-a
+    shared-slice-copy-out-a
     mul-b
-    element-copy-out-b
+    shared-slice-copy-out-b
     sub-put-record
     part-put-record-start
     part-put-record-end

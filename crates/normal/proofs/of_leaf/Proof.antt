@@ -1,0 +1,75 @@
+-- `normal::of_leaf` meets its contract: the set of a leaf is the one range between its bounds. Assumes nothing.
+use mathlib.Core.Path.{_≡_, refl, ap, _∙_, subst₂}
+use mathlib.Core.List.{List, [], _∷_}
+use Prim.Native.Nat.{ℕ}
+use native.Mathlib.Omega.{arith}
+use lib.IntN.{ℤ}
+use borrow.Author.Needs.{needs}
+use Rattle.integers.specs.Integer.{Word}
+use Rattle.integers.proofs.SignedLocals.{again, again-same}
+use Rattle.ranges.specs.Spans.{Span, span, holds, Ascending}
+use Rattle.elements.specs.Leaves.{LeafHere}
+use Rattle.normal.specs.Contract.{weight, HereSet}
+use Rattle.normal.proofs.Walks.{leaf-there, leaf-here-set}
+use Rattle.normal.proofs.Answers.{whole-here, whole-set, answer-form}
+use Rattle.normal.proofs.of_leaf.Statement.{statement}
+use Rattle.normal.proofs.of_leaf.Tie as tie
+
+-- the bytes are a leaf
+there : (s : tie.Start) → LeafHere (s .args .template .now) 0
+there s = leaf-there _ 0 8 (whole-here _ _ (s .pre .0 .reads)) (s .pre .1)
+
+bounds-at-requires : tie.Need-bounds-at-requires
+bounds-at-requires c κs = there (c .before .before)
+
+-- its range
+module _ (c : tie.After-bounds-at) where
+  abbrev s : tie.Start
+  s = c .before .before .before
+
+  abbrev a : ℤ
+  a = c .bounds-at .result .lower
+
+  abbrev b : ℤ
+  b = c .bounds-at .result .upper
+
+  word-a : Word a
+  word-a = search needs
+
+  word-b : Word b
+  word-b = search needs
+
+  found : Ascending (span (again a) (again b) ∷ [])
+      × HereSet (s .args .template .now) 0 8 (holds (span (again a) (again b) ∷ [])) (weight (span (again a) (again b) ∷ [])) (c .bounds-at .result .next)
+  found = rw (again-same a word-a, again-same b word-b) (leaf-here-set _ 0 8 (span a b ∷ []) a b _ refl (there s) (s .pre .1) (c .bounds-at .ensures))
+
+slice-aggregate-give-set : tie.Need-slice-aggregate-give-set
+slice-aggregate-give-set c = search needs
+
+slice-aggregate-give-set-2 : tie.Need-slice-aggregate-give-set-2
+slice-aggregate-give-set-2 c = search needs
+
+give-set-requires : tie.Need-give-set-requires
+give-set-requires c κs = (omega arith, omega arith, omega arith, found (c .before .before .before .before .before) .0)
+
+same-length : tie.Need-same-length
+same-length c = search needs
+
+returns : tie.Need-returns
+returns c =
+    let g = c .before .before .before .before in
+    let l = g .before .before .before .before .before .before in
+    let e = s l .pre .0 in
+    let f = found l in
+    g .give-set .ensures ∙ answer-form _ _ (e .reads) (s l .args .room .now) _ (whole-set _ _ (e .reads) _ _ _ (f .0) (f .1))
+
+pub of-leaf-spec : {M : Type 1} → statement M
+of-leaf-spec =
+    tie.close
+    (tie.spec
+    bounds-at-requires
+    slice-aggregate-give-set
+    slice-aggregate-give-set-2
+    give-set-requires
+    same-length
+    returns)
