@@ -1,23 +1,23 @@
 -- The walk with the ranges that it gathers: where it stands, a leaf and a call more, and what a list or a complement gives. Assumes nothing.
-use mathlib.Core.Path.{_≡_, refl, sym, ap, _∙_, subst}
+use mathlib.Core.Path.{_≡_, refl, sym, _∙_, subst}
 use mathlib.Core.Bool.{Bool, true, false, cond}
 use mathlib.Core.List.{List, [], _∷_, _++_}
 use mathlib.Core.Logic.{⊎-elim}
-use Prim.Native.Nat.{ℕ, _+_, _-_, _*_, _/_, _%_, _≤_, _<_}
+use Prim.Native.Nat.{ℕ, _+_, _-_, _*_, _≤_, _<_}
 use native.Mathlib.Omega.{arith}
 use lib.IntN.{ℤ}
 use lib.ListN.{length, getD, take, drop, set, length-append}
 use borrow.Rule.Slice.PartMut.{putMid}
 use Rattle.facts.proofs.Cases.{below}
 use Rattle.ranges.specs.Shown.{view, Became}
-use Rattle.ranges.specs.Spans.{Span, span, holds, Ascending, Proper, joinAll, gaps}
+use Rattle.ranges.specs.Spans.{Span, span, holds, Ascending, joinAll, gaps}
 use Rattle.ranges.proofs.JoinsAndGaps.{proper-of, ascending-joined, ascending-gaps}
 use Rattle.grammar.specs.Element.{leaves}
 use Rattle.forms.proofs.Accepts.{elem-facts}
 use Rattle.elements.specs.Leaves.{LeafHere, BoundsHere}
 use Rattle.elements.proofs.ElementByKind as by-kind
-use Rattle.normal.specs.Contract.{placeIn, rangesIn, weight, Here, Members, HereSet, AnySet, Room, MembersFrom, HereFrom, More, GatheredAll, GatheredHere}
-use Rattle.normal.proofs.Walks.{here-fits, group-fits, leaf-there, leaf-here-set, list-here-set, group-few, complement-here-set, Chain, chain-start, chain-here, chain-here-leaves, chain-step, chain-end, chain-short}
+use Rattle.normal.specs.Contract.{placeIn, rangesIn, weight, Here, HereSet, AnySet, Room, MembersFrom, HereFrom, More, GatheredAll, GatheredHere}
+use Rattle.normal.proofs.Walks.{group-fits, leaf-there, leaf-here-set, list-here-set, group-few, complement-here-set, Chain, chain-start, chain-here, chain-here-leaves, chain-step, chain-end, chain-short}
 use Rattle.normal.proofs.Gathers.{packed, more-none, more-and, more-one, more-from, part-view, more-back}
 
 -- ---- several element templates

@@ -1,13 +1,12 @@
 -- `normal::of_leaf` meets its contract: the set of a leaf is the one range between its bounds. Assumes nothing.
-use mathlib.Core.Path.{_≡_, refl, ap, _∙_, subst₂}
-use mathlib.Core.List.{List, [], _∷_}
-use Prim.Native.Nat.{ℕ}
+use mathlib.Core.Path.{refl, _∙_}
+use mathlib.Core.List.{[], _∷_}
 use native.Mathlib.Omega.{arith}
 use lib.IntN.{ℤ}
 use borrow.Author.Needs.{needs}
 use Rattle.integers.specs.Integer.{Word}
 use Rattle.integers.proofs.SignedLocals.{again, again-same}
-use Rattle.ranges.specs.Spans.{Span, span, holds, Ascending}
+use Rattle.ranges.specs.Spans.{span, holds, Ascending}
 use Rattle.elements.specs.Leaves.{LeafHere}
 use Rattle.normal.specs.Contract.{weight, HereSet}
 use Rattle.normal.proofs.Walks.{leaf-there, leaf-here-set}

@@ -1,10 +1,10 @@
 -- `normal::walk::any_of` and `set_of` meet their contracts. The loop's invariant: the ranges gathered hold what the members passed match, are
 -- two at most for each leaf passed, and whatever the members to come add completes the whole (`Walking`). The measure is the depth left,
 -- twice, and one more for `any_of`, which calls `set_of` at the same depth; that of the loop is the members left. Assumes nothing.
-use mathlib.Core.Path.{_≡_, refl, sym, ap, _∙_, subst}
+use mathlib.Core.Path.{_≡_, sym, _∙_, subst}
 use mathlib.Core.List.{List}
 use mathlib.Core.Logic.{⊎-elim}
-use Prim.Native.Nat.{ℕ, _+_, _-_, _*_, _/_, _≤_, _<_}
+use Prim.Native.Nat.{ℕ, _+_, _-_, _*_, _≤_, _<_}
 use native.Mathlib.Omega.{arith}
 use lib.IntN.{ℤ}
 use lib.ListN.{length, getD, take, drop}
@@ -19,7 +19,7 @@ use Rattle.ranges.specs.Spans.{Proper}
 use Rattle.normal.specs.Contract.{placeIn, rangesIn, HereFrom, MembersFrom, GatheredAll, GatheredHere}
 use Rattle.normal.proofs.Walks.{here-fits}
 use Rattle.normal.proofs.Gathers.{lent-length}
-use Rattle.normal.proofs.Turns.{Walking, walking-start, walking-here, walking-room, leaf-at, leaf-room, next-short, walking-leaf, walking-call, walking-end, members-fit, next-place, same-ranges, members-from, list-gathered, all-few, fits-low, fits-high, own-ranges, complement-gathered}
+use Rattle.normal.proofs.Turns.{Walking, walking-start, walking-here, walking-room, leaf-at, leaf-room, next-short, walking-leaf, walking-call, walking-end, members-fit, same-ranges, members-from, list-gathered, all-few, own-ranges, complement-gathered}
 use Rattle.normal.proofs.walk.any_of.Reads as any-of
 use Rattle.normal.proofs.walk.any_of.Kinds as any-of-kinds
 use Rattle.normal.proofs.walk.+any_of+set_of.Lts-any_of as any-of-lts
