@@ -20,7 +20,7 @@ use Rattle.grammar.specs.Element.{Elem}
 use Rattle.grammar.specs.Leaf.{Leaf}
 use Rattle.grammar.specs.Blocks.{StandsAt, Standing}
 use Rattle.grammar.specs.Matches.{matches}
-use Rattle.element_match.specs.Contract.{ElementAt, Among, HitsAt}
+use Rattle.element_match.specs.Contract.{ElementAt, Among, HitsAt, OneHit}
 use Rattle.elements.specs.Leaves.{BoundsHere}
 use Rattle.elements.proofs.ElementByKind.{bounds-match}
 use Rattle.masks.specs.Masks.{bit, Plus, Flipped}
@@ -267,6 +267,14 @@ module _ (t places : List ℕ) (members : ℕ) (w : MembersAt t places members) 
 
     pub marked-all : k ≡ members → MembersMarked before t places first members xs rows
     marked-all z = record { size = r .size; other = λ v e q. r .other v e (rw z q); self = λ es s m e i j. r .self es s m e i (omega arith) }
+
+-- whether the element template at a member's place matches says whether the member does
+pub told-hit : (t places : List ℕ) (members : ℕ) (w : MembersAt t places members) (es : List (Elem Leaf)) (s : Standing t es (take members places)) (xs : List ℤ) (m e : ℕ) (hit : Bool) → m < members
+    → OneHit t (getD places m 0) xs e hit → memberHits matches es m (getD xs e (pos 0)) ≡ hit
+told-hit t places members w es s xs m e hit l h =
+    let who = member-at t places members w es m s l in
+    let st = who .stands in
+    who .hits (getD xs e (pos 0)) ∙ sym (h .right (who .who) (st .leaves) (st .rest) (st .reads))
 
 -- marked from nothing, and nothing after the list: the rows
 pub rows-end : (t places : List ℕ) (members : ℕ) (w : MembersAt t places members) (xs : List ℤ) (rows after : List ℕ) → MembersMarked (replicate 32 0) t places 0 members xs rows → Cleared (length xs) rows after

@@ -18,12 +18,8 @@ use Rattle.masks.specs.Masks.{bit, Flipped}
 use Rattle.masks.proofs.OneByOne.{flipped-out}
 use Rattle.grammar.specs.Element.{Elem}
 use Rattle.grammar.specs.Leaf.{Leaf}
-use Rattle.grammar.specs.Blocks.{Standing}
 use Rattle.grammar.specs.Matches.{matches}
 use Rattle.grammar.specs.Members.{memberHits}
-use Rattle.element_match.specs.Contract.{OneHit}
-use Rattle.member_rows.specs.Places.{MembersAt}
-use Rattle.member_rows.proofs.RowByRow.{member-at}
 use Rattle.matching.proofs.RulesByBlocks.{hits-low}
 use Rattle.pairs.specs.Pairs.{Right, Left, Paired, right, wrong}
 
@@ -122,11 +118,3 @@ going-end es xs w e left size z g =
     right
     (record { bytes = λ i l. g .bytes i (omega arith); once = λ m l. subst (λ (v : List ℕ). cnt m v ≤ 1) whole (g .few m l) })
     (subst (λ (v : List ℕ). Left (length es) v left) whole (g .left-over))
-
--- the member that the walk tested is the one with this number
-pub told-hit : (t places : List ℕ) (members : ℕ) (at-all : MembersAt t places members) (es : List (Elem Leaf)) (s : Standing t es (take members places)) (xs : List ℤ) (m e : ℕ) (hit : Bool) → m < members
-    → OneHit t (getD places m 0) xs e hit → memberHits matches es m (getD xs e (pos 0)) ≡ hit
-told-hit t places members w es s xs m e hit l h =
-    let who = member-at t places members w es m s l in
-    let st = who .stands in
-    who .hits (getD xs e (pos 0)) ∙ sym (h .right (who .who) (st .leaves) (st .rest) (st .reads))

@@ -15,9 +15,9 @@ use Rattle.grammar.specs.Element.{Elem}
 use Rattle.grammar.specs.Leaf.{Leaf}
 use Rattle.grammar.specs.Blocks.{Standing}
 use Rattle.member_rows.specs.Places.{MembersAt}
-use Rattle.member_rows.proofs.RowByRow.{places-count, element-there}
+use Rattle.member_rows.proofs.RowByRow.{places-count, element-there, told-hit}
 use Rattle.pairs.specs.Pairs.{Paired, wrong}
-use Rattle.pairs.proofs.ByteByByte.{Going, going-start, going-spare, going-member, stop-high, stop-gone, stop-miss, going-end, told-hit}
+use Rattle.pairs.proofs.ByteByByte.{Going, going-start, going-spare, going-member, stop-high, stop-gone, stop-miss, going-end}
 use Rattle.pairs.proofs.left_over.Statement.{statement}
 use Rattle.pairs.proofs.left_over.Tie as tie
 

@@ -1,0 +1,112 @@
+-- All blocks, from the last to the first: the places from which those from j on go on to the end, and the rows of the groups among them. Assumes nothing.
+use mathlib.Core.Path.{_≡_, refl, sym, ap, _∙_, subst}
+use mathlib.Core.Bool.{Bool, true, false}
+use mathlib.Core.Logic.{⊎-elim}
+use mathlib.Core.List.{List, [], _∷_}
+use Prim.Native.Nat.{ℕ, zero, suc, _+_, _≤_, _<_}
+use native.Mathlib.Omega.{arith}
+use lib.IntN.{ℤ}
+use lib.ListN.{length, getD, take, drop, set, replicate, length-set}
+use lib.Seq.{getD-set-same, getD-set-other}
+use Rattle.facts.specs.Counting.{between}
+use Rattle.facts.proofs.Cases.{same?, holds?, clash, not-so}
+use Rattle.masks.specs.Masks.{bit, Plus}
+use Rattle.rows.specs.Rows.{may}
+use Rattle.rows.proofs.Rows.{zeros-may}
+use Rattle.blocks.specs.declared.Block.{Block}
+use Rattle.blocks.specs.Numbers.{blockIn, blocksIn}
+use Rattle.blocks.specs.Pieces.{Cuts, Cutting, Inside}
+use Rattle.blocks.proofs.LentBlocks.{lent, cuts-lent}
+use Rattle.grammar.specs.Element.{Elem}
+use Rattle.grammar.specs.Leaf.{Leaf}
+use Rattle.places.specs.Ways.{Ways, Way, Back, Low, isOne, Agrees}
+use Rattle.places.proofs.Backward.{ways-low, lent-end, lent-back}
+use Rattle.plain.specs.Plain.{Plain}
+use Rattle.fronts.specs.Given.{Told, Prepares}
+use Rattle.records.specs.Records.{pairOf, Below, Sound, Before}
+
+-- ---- the members of each block
+
+pub below-inside : (k : ℕ) (bs : List Block) → k ≤ 32 → Below k bs → Inside bs
+unfolding Below Inside
+below-inside k [] l h = tt
+below-inside k (b ∷ bs) l h = (omega (arith, h .0), below-inside k bs l (h .1))
+
+-- the block that is read of lent numbers
+pub below-at : (k count : ℕ) (vs : List ℕ) (j : ℕ) → j < count → Below k (blocksIn (take count vs)) → blockIn (getD vs j 0) .first + blockIn (getD vs j 0) .k ≤ k
+unfolding Below blocksIn blockIn
+below-at k zero vs j l h = absurd (omega arith)
+below-at k (suc count) [] j l h = omega arith
+below-at k (suc count) (v ∷ vs) zero l h = h .0
+below-at k (suc count) (v ∷ vs) (suc j) l h = below-at k count vs j (omega arith) (h .1)
+
+-- plain blocks are no more than the members
+pub plain-few : (k count : ℕ) (vs : List ℕ) → Plain count vs → Below k (blocksIn (take count vs)) → count ≤ k
+plain-few k zero vs plain h = omega arith
+plain-few k (suc c) vs plain h =
+    let b = below-at k (suc c) vs c (omega arith) h in
+    let q = plain .at c (omega arith) in
+    let f : blockIn (getD vs c 0) .first ≡ c = ap (λ (x : Block). x .first) q in
+    let o : blockIn (getD vs c 0) .k ≡ 1 = ap (λ (x : Block). x .k) q in
+    omega arith
+
+-- ---- from block to block
+
+module _ (es : List (Elem Leaf)) (xs : List ℤ) (count : ℕ) (vs : List ℕ) where
+  pub record Going (j good : ℕ) (ends rows : List ℕ) : Type 0 where
+    pub ways : Ways (pairOf es xs) (drop j (lent count vs)) (length xs) good
+    pub after : (i : ℕ) → j ≤ i → i < count → Ways (pairOf es xs) (drop (suc i) (lent count vs)) (length xs) (getD ends i 0)
+    pub sound : Sound es xs rows
+    pub done : (i : ℕ) → j ≤ i → i < count → isOne (blockIn (getD vs i 0)) ≡ false
+        → (m e : ℕ) → between (blockIn (getD vs i 0) .first) (blockIn (getD vs i 0) .first + blockIn (getD vs i 0) .k) m ≡ true → e < length xs → pairOf es xs m e ≡ true → may rows m e ≡ true
+    pub size : length rows ≡ 32
+
+  pub going-start : {good : ℕ} (ends : List ℕ) → Plus (bit 0) (length xs) (bit good) → Going count good ends (replicate 32 0)
+  going-start ends p = record {
+    ways = lent-end (pairOf es xs) count vs (length xs) p;
+    after = λ i l u. absurd (omega arith);
+    sound = record { right = λ m e l h. absurd (clash h (zeros-may m e)) };
+    done = λ i l u. absurd (omega arith);
+    size = refl;
+  }
+
+  module _ (j i good : ℕ) (ends rows : List ℕ) (g : Going j good ends rows) (b : Block) (is : b ≡ blockIn (getD vs i 0)) (q : j ≡ suc i) (l : j ≤ count) (wide : length ends ≡ 32) (few : count ≤ 32) where
+    pub going-step : (r : ℕ) (rows′ : List ℕ) → Before es xs b good rows rows′ r → Going i r (set ends i good) rows′
+    going-step r rows′ h = record {
+      ways = lent-back count vs j i is q l (h .back (g .sound)) (g .ways);
+      after = λ k a u. ⊎-elim
+          (λ (z : k ≡ i). rw (z, getD-set-same ends i good 0 (omega arith), sym q) (g .ways))
+          (λ (z : k ≡ i → ⊥). rw (getD-set-other ends i k good 0 z) (g .after k (omega arith) u))
+          (same? k i);
+      sound = h .sound (g .sound);
+      done = λ k a u o m e c e′ p. ⊎-elim
+          (λ (z : k ≡ i).
+          let z′ : blockIn (getD vs k 0) ≡ b = ap (λ (x : ℕ). blockIn (getD vs x 0)) z ∙ sym is in
+          h .group (ap isOne (sym z′) ∙ o) m e (subst (λ (d : Block). between (d .first) (d .first + d .k) m ≡ true) z′ c) e′ p)
+          (λ (z : k ≡ i → ⊥). h .kept m e e′ (g .done k (omega arith) u o m e c e′ p))
+          (same? k i);
+      size = h .size;
+    }
+
+  module _ (good : ℕ) (ends rows : List ℕ) (g : Going 0 good ends rows) where
+    told : Told (pairOf es xs) rows count vs (length xs)
+    told = record {
+      at = λ j l o. record {
+        same = λ m e i u. ⊎-elim
+            (λ (h : pairOf es xs m e ≡ true). g .done j (omega arith) l o m e i u h ∙ sym h)
+            (λ (h : pairOf es xs m e ≡ false). not-so (may rows m e) (λ z. clash (g .sound .right m e u z) h) ∙ sym h)
+            (holds? (pairOf es xs m e));
+      };
+    }
+
+    pub prepares : bit good 0 ≡ true → Prepares (pairOf es xs) rows count vs ends (length xs)
+    prepares h = record { told = told; ways = λ j l. g .after j (omega arith) l; start = g .ways .some 0 h }
+
+    pub no-cut : bit good 0 ≡ false → (w : List ℕ) → length w ≡ 32 → w ≡ replicate 32 255 → ((i : ℕ) → length xs ≤ i → i < 32 → getD w i 0 ≡ 255) → Cutting (pairOf es xs) (blocksIn (take count vs)) (length xs) false w
+    no-cut h w size blank out = record {
+      best = λ f. absurd (clash f refl);
+      none = λ f v c. clash (g .ways .all 0 (record { list = v; cut = cuts-lent (pairOf es xs) count vs 0 (length xs) v c })) h;
+      size = size;
+      outside = out;
+      blank = λ f. blank;
+    }

@@ -1,0 +1,122 @@
+-- Cuts by plain blocks: the numbers of the members one after the other, where each matches its element, and nothing else. Assumes nothing.
+use mathlib.Core.Path.{_≡_, refl, sym, ap, ap₂, _∙_, subst}
+use mathlib.Core.Bool.{Bool, true, false}
+use mathlib.Core.Logic.{⊎-elim}
+use mathlib.Core.List.{List, [], _∷_, _++_}
+use Prim.Native.Nat.{ℕ, zero, suc, _+_, _-_, _≤_, _<_}
+use native.Mathlib.Omega.{arith}
+use lib.IntN.{ℤ}
+use lib.ListN.{length, getD, take, drop, set, replicate, length-set, getD-replicate}
+use lib.Seq.{getD-set-same, getD-set-other}
+use Rattle.byte_order.proofs.ByteOrder.{earlier-irreflexive}
+use Rattle.facts.proofs.Cases.{same?, clash}
+use Rattle.blocks.specs.declared.Block.{Block}
+use Rattle.blocks.specs.Numbers.{block, blockIn, blocksIn}
+use Rattle.blocks.specs.Pieces.{Takes, Cuts, Cutting}
+use Rattle.blocks.proofs.LentBlocks.{lent, lent-none, lent-at, cuts-lent, lent-cuts}
+use Rattle.grammar.specs.Element.{Elem}
+use Rattle.grammar.specs.Leaf.{Leaf}
+use Rattle.plain.specs.Plain.{Plain, upFrom}
+use Rattle.plain.proofs.UpFrom.{up-take}
+use Rattle.places.specs.Ways.{isOne}
+use Rattle.places.proofs.Backward.{one-taken, taken-one}
+use Rattle.records.specs.Records.{pairOf}
+
+module _ (may : ℕ → ℕ → Bool) (count : ℕ) (vs : List ℕ) (plain : Plain count vs) (few : count ≤ 32) where
+  one-here : (j : ℕ) → j < count → isOne (blockIn (getD vs j 0)) ≡ true
+  unfolding isOne
+  one-here j l = rw (plain .at j l) refl
+
+  first-here : (j : ℕ) → j < count → blockIn (getD vs j 0) .first ≡ j
+  first-here j l = ap (λ (b : Block). b .first) (plain .at j l)
+
+  -- what the blocks from j on take, from the same place on
+  pub plain-cuts : (d j n : ℕ) (v : List ℕ) → j + d ≡ count → Cuts may (drop j (lent count vs)) j n v → (n ≡ count) × (v ≡ upFrom j d) × ((i : ℕ) → j ≤ i → i < count → may i i ≡ true)
+  unfolding Cuts upFrom
+  plain-cuts zero j n v q c =
+      let e : drop j (lent count vs) ≡ [] = ap (λ (x : ℕ). drop x (lent count vs)) (let z : j ≡ count = omega arith in z) ∙ lent-none count vs in
+      let d : Cuts may [] j n v = subst (λ (bs : List Block). Cuts may bs j n v) e c in
+      (omega (arith, d .0), d .1, λ i l u. absurd (omega arith))
+  plain-cuts (suc d) j n v q c =
+      let here : j < count = omega arith in
+      let b = blockIn (getD vs j 0) in
+      let f = first-here j here in
+      let a : Cuts may (b ∷ drop (suc j) (lent count vs)) j n v = subst (λ (bs : List Block). Cuts may bs j n v) (lent-at count vs j here) c in
+      let t = taken-one (a .parts .left) (one-here j here) (omega arith) (a .after) (a .parts .onLeft) in
+      let z : a .mid ≡ suc j = omega (arith, t .0) in
+      let r = plain-cuts d (suc j) n (a .parts .right) (omega arith) (subst (λ (x : ℕ). Cuts may (drop (suc j) (lent count vs)) x n (a .parts .right)) z (a .parts .onRight)) in (
+        r .0,
+        a .parts .whole ∙ ap₂ (λ (x y : List ℕ). x ++ y) (t .1 ∙ ap (λ (x : ℕ). x ∷ []) f) (r .1),
+        λ i l u. ⊎-elim (λ (y : i ≡ j). rw y (subst (λ (x : ℕ). may x j ≡ true) f (t .2))) (λ (y : i ≡ j → ⊥). r .2 i (omega arith) u) (same? i j),
+      )
+
+  pub cuts-plain : (d j : ℕ) → j + d ≡ count → ((i : ℕ) → j ≤ i → i < count → may i i ≡ true) → Cuts may (drop j (lent count vs)) j count (upFrom j d)
+  unfolding Cuts upFrom
+  cuts-plain zero j q h =
+      let z : j ≡ count = omega arith in
+      let e : drop j (lent count vs) ≡ [] = ap (λ (x : ℕ). drop x (lent count vs)) z ∙ lent-none count vs in
+      subst (λ (bs : List Block). Cuts may bs j count []) (sym e) (z, refl)
+  cuts-plain (suc d) j q h =
+      let here : j < count = omega arith in
+      let b = blockIn (getD vs j 0) in
+      let f = first-here j here in
+      let z : j + 1 ≡ suc j = omega arith in
+      subst (λ (bs : List Block). Cuts may bs j count (j ∷ upFrom (suc j) d)) (sym (lent-at count vs j here))
+      (record {
+        mid = suc j;
+        after = omega arith;
+        inside = omega arith;
+        parts = record {
+          left = j ∷ [];
+          right = upFrom (suc j) d;
+          whole = refl;
+          onLeft = rw z at (subst (λ (x : ℕ). Takes may b j (j + 1) (x ∷ [])) f (one-taken may b j (one-here j here) (subst (λ (x : ℕ). may x j ≡ true) (sym f) (h j (omega arith) here))));
+          onRight = cuts-plain d (suc j) (omega arith) (λ i l u. h i (omega arith) u);
+        };
+      })
+
+-- ---- the loop over the elements
+
+pub record Tested (es : List (Elem Leaf)) (xs : List ℤ) (e : ℕ) (w : List ℕ) : Type 0 where
+  pub pairs : (i : ℕ) → i < e → pairOf es xs i i ≡ true
+  pub bytes : (i : ℕ) → i < e → getD w i 0 ≡ i
+  pub blank : (i : ℕ) → e ≤ i → i < 32 → getD w i 0 ≡ 255
+  pub size : length w ≡ 32
+
+pub tested-start : (es : List (Elem Leaf)) (xs : List ℤ) → Tested es xs 0 (replicate 32 255)
+tested-start es xs = record { pairs = λ i l. absurd (omega arith); bytes = λ i l. absurd (omega arith); blank = λ i l u. getD-replicate 32 i 255 0 u; size = refl }
+
+pub tested-step : (es : List (Elem Leaf)) (xs : List ℤ) (e : ℕ) (w : List ℕ) → e < 32 → pairOf es xs e e ≡ true → Tested es xs e w → Tested es xs (e + 1) (set w e e)
+tested-step es xs e w low h g = record {
+  pairs = λ i l. ⊎-elim (λ (z : i ≡ e). rw z h) (λ (z : i ≡ e → ⊥). g .pairs i (omega arith)) (same? i e);
+  bytes = λ i l. ⊎-elim (λ (z : i ≡ e). rw z (getD-set-same w e e 0 (omega (arith, g .size)))) (λ (z : i ≡ e → ⊥). getD-set-other w e i e 0 z ∙ g .bytes i (omega arith)) (same? i e);
+  blank = λ i l u. getD-set-other w e i e 0 (λ z. omega arith) ∙ g .blank i (omega arith) u;
+  size = length-set w e e ∙ g .size;
+}
+
+module _ (es : List (Elem Leaf)) (xs : List ℤ) (count : ℕ) (vs : List ℕ) (plain : Plain count vs) (few : count ≤ 32) where
+  -- every cut is the same list
+  only : (v : List ℕ) → Cuts (pairOf es xs) (blocksIn (take count vs)) 0 (length xs) v → (length xs ≡ count) × (v ≡ upFrom 0 count) × ((i : ℕ) → 0 ≤ i → i < count → pairOf es xs i i ≡ true)
+  only v c = plain-cuts (pairOf es xs) count vs plain few count 0 (length xs) v (omega arith) (cuts-lent (pairOf es xs) count vs 0 (length xs) v c)
+
+  none-found : (w : List ℕ) → w ≡ replicate 32 255 → ((v : List ℕ) → Cuts (pairOf es xs) (blocksIn (take count vs)) 0 (length xs) v → ⊥) → Cutting (pairOf es xs) (blocksIn (take count vs)) (length xs) false w
+  none-found w q none = rw q (record { best = λ f. absurd (clash f refl); none = λ f. none; size = refl; outside = λ i l u. getD-replicate 32 i 255 0 u; blank = λ f. refl })
+
+  pub other-length : (w : List ℕ) → w ≡ replicate 32 255 → (length xs ≡ count → ⊥) → Cutting (pairOf es xs) (blocksIn (take count vs)) (length xs) false w
+  other-length w q n = none-found w q (λ v c. n (only v c .0))
+
+  pub one-missed : (w : List ℕ) (e : ℕ) → w ≡ replicate 32 255 → e < count → pairOf es xs e e ≡ false → Cutting (pairOf es xs) (blocksIn (take count vs)) (length xs) false w
+  one-missed w e q l h = none-found w q (λ v c. clash (only v c .2 e (omega arith) l) h)
+
+  pub all-tested : (w : List ℕ) → length xs ≡ count → Tested es xs count w → Cutting (pairOf es xs) (blocksIn (take count vs)) (length xs) true w
+  all-tested w z g =
+      let up : take (length xs) w ≡ upFrom 0 count = ap (λ (x : ℕ). take x w) z ∙ up-take count w (omega (arith, g .size)) (g .bytes) in
+      let cut : Cuts (pairOf es xs) (blocksIn (take count vs)) 0 (length xs) (upFrom 0 count) =
+          rw z (lent-cuts (pairOf es xs) count vs 0 count (upFrom 0 count) (cuts-plain (pairOf es xs) count vs plain few count 0 (omega arith) (λ i l u. g .pairs i u))) in
+      record {
+        best = λ f. rw up (record { holds = cut; least = λ v c. rw (only v c .1) (earlier-irreflexive (upFrom 0 count)) });
+        none = λ f. absurd (clash refl f);
+        size = g .size;
+        outside = λ i l u. g .blank i (omega arith) u;
+        blank = λ f. absurd (clash refl f);
+      }

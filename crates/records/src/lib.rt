@@ -1,0 +1,125 @@
+// The first witness of a record of, from its bytes. From the last block to the first: the places from which the blocks can go on to the end of the
+// list, where a member that stands alone is tested on the elements that are asked about only, and the rows of a group's members are made when
+// the group is reached. Then from the first block on the first cut.
+ghost use mathlib.Core.List.{List};
+ghost use mathlib.Core.Path.{_≡_};
+ghost use Prim.Native.Nat.{ℕ, _+_, _≤_};
+ghost use lib.ListN.{length, take};
+ghost use Rattle.grammar.specs.Element.{Elem};
+ghost use Rattle.grammar.specs.Leaf.{Leaf};
+ghost use Rattle.grammar.specs.Blocks.{Standing};
+ghost use Rattle.blocks.specs.Numbers.{blocksIn};
+ghost use Rattle.blocks.specs.Pieces.{Cutting};
+ghost use Rattle.member_rows.specs.Places.{MembersAt, Widened};
+ghost use Rattle.plain.specs.Plain.{Plain};
+ghost use Rattle.places.specs.Ways.{Low};
+ghost use Rattle.records.specs.Records.{pairOf, Below, Before};
+use blocks::Block;
+use blocks::Found;
+use blocks::block_at;
+use element_match::hit;
+use element_match::hits;
+use format::SPARE;
+use fronts::first_cut_from;
+use masks::has_place;
+use masks::with_place;
+use member_rows::mark_members;
+use member_rows::widened;
+use place_masks::before_spares;
+use plain::is_plain;
+use places::before_group;
+use places::before_one;
+use places::is_one;
+
+// The places from which b leads to a good one. The rows get the members of a group.
+fn before_block(
+    t: &[u8],
+    places: &[u16; 32],
+    members: usize,
+    list: &[i32],
+    wide: &[i32; 32],
+    rows: &mut [u32; 32],
+    b: Block,
+    good: u64,
+) -> u64
+    requires { ⌜ MembersAt (now t) (now places) members × (length (now list) ≤ 32) × Widened (now list) (now wide) × (length (now rows) ≡ 32) × (b .first + b .k ≤ members) × Low good (length (now list)) ⌝ }
+    ensures { λ r. ⌜ ((es : List (Elem Leaf)) → Standing (now (t .entry)) es (take members (now (places .entry))) → Before es (now (list .entry)) b good (now (rows .entry)) (now (rows .exit)) r) ⌝ }
+{
+    if b.k == 0 {
+        return before_spares(good, b.min as usize, b.max as usize);
+    }
+    let first = b.first as usize;
+    if is_one(b) {
+        let at = places[first] as usize;
+        return hits(t, at, list, before_one(good)) as u64;
+    }
+    mark_members(rows, t, places, first, first + b.k as usize, list, wide);
+    before_group(rows, b, good)
+}
+
+// The first cut by plain blocks: each element is tested on its own member, and there is no other cut.
+fn plain_first(t: &[u8], places: &[u16; 32], members: usize, count: usize, list: &[i32]) -> Found
+    requires { ⌜ MembersAt (now t) (now places) members × (count ≤ members) × (length (now list) ≤ 32) ⌝ }
+    ensures { λ r. ⌜ ((es : List (Elem Leaf)) (vs : List ℕ) → Standing (now (t .entry)) es (take members (now (places .entry))) → Plain count vs → Cutting (pairOf es (now (list .entry))) (blocksIn (take count vs)) (length (now (list .entry))) (r .found) (r .w)) ⌝ }
+{
+    let n = list.len();
+    let blank = [SPARE; 32];
+    let mut w = blank;
+    if n != count {
+        return Found {
+            found: false,
+            w: blank,
+        };
+    }
+    let mut e: usize = 0;
+    while e < n {
+        let at = places[e] as usize;
+        if !hit(t, at, list, e) {
+            return Found {
+                found: false,
+                w: blank,
+            };
+        }
+        w[e] = e as u8;
+        e += 1;
+    }
+    Found { found: true, w: w }
+}
+
+// The first cut of the list in byte order by the first `count` blocks.
+pub fn first_in_record(
+    t: &[u8],
+    places: &[u16; 32],
+    members: usize,
+    blocks: &[u32; 32],
+    count: usize,
+    list: &[i32],
+) -> Found
+    requires { ⌜ MembersAt (now t) (now places) members × (count ≤ 32) × (length (now list) ≤ 32) × Below members (blocksIn (take count (now blocks))) ⌝ }
+    ensures { λ r. ⌜ ((es : List (Elem Leaf)) → Standing (now (t .entry)) es (take members (now (places .entry))) → Cutting (pairOf es (now (list .entry))) (blocksIn (take count (now (blocks .entry)))) (length (now (list .entry))) (r .found) (r .w)) ⌝ }
+{
+    if is_plain(blocks, count) {
+        return plain_first(t, places, members, count, list);
+    }
+    let n = list.len();
+    let wide = widened(list);
+    let mut rows: [u32; 32] = [0; 32];
+    let mut ends: [u64; 32] = [0; 32];
+    let mut good = with_place(0, n);
+    let mut j = count;
+    while 0 < j {
+        j -= 1;
+        ends[j] = good;
+        let b = block_at(blocks, j);
+        good = before_block(t, places, members, list, &wide, &mut rows, b, good);
+    }
+    let blank = [SPARE; 32];
+    if !has_place(good, 0) {
+        return Found {
+            found: false,
+            w: blank,
+        };
+    }
+    let w = first_cut_from(&rows, blocks, count, &ends, n as u8);
+    Found { found: true, w: w }
+}
