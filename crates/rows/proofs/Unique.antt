@@ -14,8 +14,6 @@ use Rattle.rows.proofs.may_take.Reads as may-take-reads
 use Rattle.rows.proofs.may_take.Kinds as may-take-kinds
 use Rattle.rows.proofs.choices.Reads as choices-reads
 use Rattle.rows.proofs.choices.Kinds as choices-kinds
-use Rattle.rows.proofs.may_pick.Reads as may-pick-reads
-use Rattle.rows.proofs.may_pick.Kinds as may-pick-kinds
 use Rattle.rows.proofs.turned.Reads as turned-reads
 use Rattle.rows.proofs.turned.Kinds as turned-kinds
 
@@ -26,10 +24,6 @@ may-take-unique κs a r r' s s' p q = p ∙ sym q
 pub choices-unique : (κs : Lfts 1) (a : Dens κs choices-kinds.ps) (r r' : resT choices-kinds.r κs .Denot) (s s' : AtExit (endedOf 1 choices-kinds.ps choices-kinds.r) κs)
     → choices-reads.Post κs a r s → choices-reads.Post κs a r' s' → r ≡ r'
 choices-unique κs a r r' s s' p q = bits-same r r' (λ e. p e ∙ sym (q e))
-
-pub may-pick-unique : (κs : Lfts 1) (a : Dens κs may-pick-kinds.ps) (r r' : resT may-pick-kinds.r κs .Denot) (s s' : AtExit (endedOf 1 may-pick-kinds.ps may-pick-kinds.r) κs)
-    → may-pick-reads.Post κs a r s → may-pick-reads.Post κs a r' s' → r ≡ r'
-may-pick-unique κs a r r' s s' p q = p ∙ sym q
 
 turned-same : {rows : List ℕ} {first k from to : ℕ} (cols cols' : List ℕ) → Turned rows first k from to cols → Turned rows first k from to cols' → cols ≡ cols'
 turned-same cols cols' p q = ext-getD 0 cols cols' (p .size ∙ sym (q .size)) (λ m l. bits-same (getD cols m 0) (getD cols' m 0) (λ e.

@@ -27,14 +27,6 @@ pub fn choices(columns: &[u32; 32], m: u8) -> u32
     columns[m as usize]
 }
 
-// Whether member m may take element e, by turned rows.
-pub fn may_pick(columns: &[u32; 32], m: u8, e: u8) -> bool
-    requires { ⌜ (m < 32) × (e < 32) ⌝ }
-    ensures { λ r. ⌜ r ≡ picks (now (columns .entry)) m e ⌝ }
-{
-    has(columns[m as usize], e)
-}
-
 // How many rows are in use for members before `end` and elements before `to`: 8, 16 or 32.
 fn width(end: u8, to: u8) -> usize
     requires { ⌜ (end ≤ 32) × (to ≤ 32) ⌝ }
