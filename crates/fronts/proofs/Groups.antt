@@ -1,16 +1,15 @@
 -- A group is settled by the first of its lists, g: a list that differs from g first has the greater byte there, and at a place before its own end, since g has no member twice; and one
 -- that is g ends at one of the places that g leads to. Assumes nothing.
-use mathlib.Core.Path.{_≡_, refl, sym, ap, ap₂, _∙_, subst}
+use mathlib.Core.Path.{_≡_, sym, ap, _∙_, subst}
 use mathlib.Core.Logic.{_⊎_, inl, inr, ⊎-elim}
 use mathlib.Core.Bool.{Bool, true, false}
 use mathlib.Core.List.{List, _++_}
 use Prim.Native.Nat.{ℕ, _+_, _-_, _≤_, _<_}
 use native.Mathlib.Omega.{arith}
-use lib.ListN.{length, getD, replicate}
+use lib.ListN.{getD, replicate}
 use lib.Seq.{slice, length-slice}
 use Rattle.masks.specs.Masks.{bit}
-use Rattle.facts.specs.Counting.{between, cnt}
-use Rattle.facts.proofs.Cases.{same?, below, clash, not-so, holds?}
+use Rattle.facts.proofs.Cases.{below, clash, holds?}
 use Rattle.facts.proofs.Counting.{cnt-place, cnt-two}
 use Rattle.facts.proofs.Spans.{between-in, between-from, between-to}
 use Rattle.facts.proofs.Slices.{slice-at, cnt-slice}
@@ -19,12 +18,12 @@ use Rattle.byte_order.proofs.ByteOrder.{earlier-total}
 use Rattle.blocks.specs.declared.Block.{Block}
 use Rattle.places.specs.Ways.{Low}
 use Rattle.places.specs.Bytes.{Lone, Held, AfterLast}
+use Rattle.places.proofs.Blanks.{slice-tail, slice-front}
 use Rattle.places.proofs.Windows.{lone-inside, lone-wider, lone-before, lone-after, placed, placed-from, held-placed, held-wider}
 use Rattle.fronts.specs.Fronts.{Later, Pieced, Reached, Step}
 use Rattle.fronts.specs.Picks.{FirstMember, Chosen}
 use Rattle.fronts.proofs.Orders.{earlier-where}
 use Rattle.fronts.proofs.Picked.{held-byte, held-le, held-member}
-use Rattle.fronts.proofs.Blanks.{slice-tail, slice-front}
 
 -- the place e is an end to which b leads from one of the places Q up to `head`, and none before `next`
 pub record Onto (b : Block) (ends Q head next e : ℕ) : Type 0 where

@@ -1,10 +1,9 @@
 -- The blocks that are read of lent numbers, from the first to the last. Assumes nothing.
-use mathlib.Core.Path.{_≡_, refl, sym, ap, _∙_, subst}
-use mathlib.Core.Bool.{Bool, true, false}
+use mathlib.Core.Path.{_≡_, sym, ap, _∙_, subst}
+use mathlib.Core.Bool.{Bool, true}
 use mathlib.Core.List.{List, [], _∷_}
 use Prim.Native.Nat.{ℕ, suc, _+_, _≤_, _<_}
 use native.Mathlib.Numerals.{add-one}
-use native.Mathlib.Omega.{arith}
 use lib.ListN.{getD, take, drop}
 use Rattle.rows.specs.Rows.{may as mayRows}
 use Rattle.blocks.specs.declared.Block.{Block}
@@ -12,7 +11,7 @@ use Rattle.blocks.specs.Numbers.{blockIn, blocksIn}
 use Rattle.blocks.specs.Pieces.{Cutting}
 use Rattle.blocks.proofs.FirstLists.{best-same}
 use Rattle.blocks.proofs.LentBlocks.{lent, lent-none, lent-at, cuts-lent, lent-cuts}
-use Rattle.places.specs.Ways.{Ways, isOne, Agrees}
+use Rattle.places.specs.Ways.{isOne, Agrees}
 use Rattle.places.proofs.Backward.{ways-low}
 use Rattle.fronts.specs.Fronts.{Moved}
 use Rattle.fronts.specs.Given.{Ready, Prepares}

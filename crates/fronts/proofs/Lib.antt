@@ -2,7 +2,6 @@
 -- Orders     == where one list comes before another
 -- Steps      == the first cut, one block more
 -- Picked     == the first of the lists that a group takes from one of several places
--- Blanks     == pieces of lists that are 255 at one end
 -- Groups     == a group is settled by the first of its lists
 -- Moves      == one block more, as the functions do it
 -- LentFronts == the blocks that are read of lent numbers
@@ -10,7 +9,6 @@
 pub mod Orders
 pub mod Steps
 pub mod Picked
-pub mod Blanks
 pub mod Groups
 pub mod Moves
 pub mod LentFronts

@@ -1,9 +1,9 @@
 -- One block more, as the functions do it: a block with no members, one member, a group; and relations that agree. Assumes nothing.
-use mathlib.Core.Path.{_≡_, refl, sym, ap, ap₂, _∙_, subst}
-use mathlib.Core.Logic.{_⊎_, inl, inr, ⊎-elim}
+use mathlib.Core.Path.{_≡_, sym, ap, ap₂, _∙_, subst}
+use mathlib.Core.Logic.{inr, ⊎-elim}
 use mathlib.Core.Bool.{Bool, true, false, _&&_}
 use mathlib.Core.List.{List, [], _∷_, _++_, append-nil}
-use Prim.Native.Nat.{ℕ, zero, suc, _+_, _-_, _≤_, _<_}
+use Prim.Native.Nat.{ℕ, _+_, _-_, _≤_, _<_}
 use native.Mathlib.Omega.{arith}
 use lib.Dec.{leb}
 use lib.ListN.{length, getD, set, take, replicate, length-append, length-take, length-set, length-replicate, getD-replicate, replicate-append-replicate, List·getD-append}
@@ -12,25 +12,24 @@ use borrow.Author.Tests.{le-leb, leb-true}
 use Rattle.masks.specs.Masks.{bit, Plus}
 use Rattle.masks.proofs.Masks.{bit-none}
 use Rattle.facts.specs.Counting.{between}
-use Rattle.facts.proofs.Cases.{same?, below, clash, holds?, and-left, and-right, both}
+use Rattle.facts.proofs.Cases.{same?, below, clash, and-left, and-right, both}
 use Rattle.facts.proofs.Spans.{between-from, between-to}
 use Rattle.facts.proofs.Slices.{slice-at}
 use Rattle.byte_order.specs.ByteOrder.{earlier}
 use Rattle.byte_order.proofs.ByteOrder.{earlier-irreflexive}
 use Rattle.place_masks.specs.Places.{Least, Behind, After}
 use Rattle.blocks.specs.declared.Block.{Block}
-use Rattle.blocks.specs.Assignment.{Assigns}
 use Rattle.blocks.specs.Pieces.{Takes}
 use Rattle.blocks.proofs.Assignments.{takes-inv}
 use Rattle.assign.specs.Splice.{Spliced}
-use Rattle.places.specs.Ways.{Low, Leads, isOne, Agrees}
+use Rattle.places.specs.Ways.{Low, isOne, Agrees}
 use Rattle.places.specs.Bytes.{Lone, Held, AfterLast}
 use Rattle.places.proofs.Backward.{agrees-turn, takes-agree, leads-agree, spares-taken, one-parts, one-taken, taken-one}
-use Rattle.places.proofs.Windows.{lone-before, lone-after, lone-order, placed, placed-slice, held-placed}
-use Rattle.fronts.specs.Fronts.{Later, Pieced, Reached, Step, Leading, Standing, Moved}
+use Rattle.places.proofs.Windows.{lone-before, lone-order, placed, placed-slice, held-placed}
+use Rattle.fronts.specs.Fronts.{Step, Leading, Standing, Moved}
 use Rattle.fronts.specs.Picks.{FirstMember, Chosen, Picking}
 use Rattle.fronts.proofs.Orders.{later-not}
-use Rattle.fronts.proofs.Groups.{Onto, Nexts, group-step, group-blank}
+use Rattle.fronts.proofs.Groups.{Nexts, group-step}
 
 -- ---- two relations that agree on the block's members
 module _ {may may' : ℕ → ℕ → Bool} {b : Block} {n ends : ℕ} (a : Agrees may may' b n) (low : Low ends n) where

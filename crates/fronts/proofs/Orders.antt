@@ -1,6 +1,6 @@
 -- Where one list comes before another, and byte order from a place on. Assumes nothing.
 use mathlib.Core.Path.{_≡_, refl, sym, ap, ap₂, _∙_}
-use mathlib.Core.Logic.{_⊎_, inl, inr, ⊎-elim}
+use mathlib.Core.Logic.{⊎-elim}
 use mathlib.Core.Bool.{true, false, _&&_, _||_, or-false}
 use mathlib.Core.List.{List, [], _∷_}
 use Prim.Native.Nat.{ℕ, zero, suc, _+_, _≤_, _<_, suc-le-suc}
@@ -12,7 +12,7 @@ use lib.ListN.{length, getD, drop, drop-of-length-le}
 use lib.Seq.{drop-cons}
 use borrow.Author.Tests.{ltb-true, eqb-true, ne-eqb}
 use Rattle.byte_order.specs.ByteOrder.{earlier}
-use Rattle.byte_order.proofs.ByteOrder.{head-same, earlier-at, earlier-asymmetric, earlier-irreflexive}
+use Rattle.byte_order.proofs.ByteOrder.{head-same, earlier-at, earlier-asymmetric}
 use Rattle.facts.proofs.Cases.{clash, one-of, and-left, and-right}
 use Rattle.fronts.specs.Fronts.{Later}
 

@@ -1,37 +1,35 @@
 -- The first of the lists that a group takes from one of several places, one place after the other: a search up to the furthest end serves every later place and every
 -- nearer end; and a list that begins after the first member's place comes later. Assumes nothing.
-use mathlib.Core.Path.{_≡_, refl, sym, ap, ap₂, _∙_, subst}
-use mathlib.Core.Logic.{_⊎_, inl, inr, ⊎-elim}
+use mathlib.Core.Path.{_≡_, sym, ap, _∙_, subst}
+use mathlib.Core.Logic.{inl, inr, ⊎-elim}
 use mathlib.Core.Bool.{Bool, true, false, _&&_}
 use mathlib.Core.List.{List}
 use Prim.Native.Nat.{ℕ, _+_, _-_, _≤_, _<_}
 use native.Mathlib.Omega.{arith}
 use lib.Dec.{leb}
-use lib.ListN.{length, getD}
+use lib.ListN.{getD}
 use lib.Seq.{slice, length-slice}
-use borrow.Author.Tests.{le-leb, leb-true}
+use borrow.Author.Tests.{le-leb}
 use Rattle.masks.specs.Masks.{bit}
-use Rattle.masks.proofs.Masks.{bit-none}
-use Rattle.facts.specs.Counting.{between, cnt, count}
-use Rattle.facts.proofs.Cases.{same?, below, clash, not-so, holds?, and-left, and-right, both}
+use Rattle.facts.specs.Counting.{between, count}
+use Rattle.facts.proofs.Cases.{same?, below, not-so, and-right, both}
 use Rattle.facts.proofs.Counting.{cnt-place, count-less}
 use Rattle.facts.proofs.Spans.{between-to}
 use Rattle.facts.proofs.Slices.{slice-at}
-use Rattle.byte_order.specs.ByteOrder.{earlier, First}
+use Rattle.byte_order.specs.ByteOrder.{earlier}
 use Rattle.byte_order.proofs.ByteOrder.{earlier-not-transitive, earlier-asymmetric}
 use Rattle.place_masks.specs.Places.{Least}
 use Rattle.place_masks.proofs.PlaceBits.{bit-pos}
 use Rattle.blocks.specs.declared.Block.{Block}
-use Rattle.blocks.specs.Assignment.{takes, Assigns}
+use Rattle.blocks.specs.Assignment.{takes}
 use Rattle.blocks.proofs.Assignments.{takes-inv}
 use Rattle.assign.specs.Answer.{Answer}
 use Rattle.assign.proofs.Answers.{answer-complete}
 use Rattle.places.specs.Ways.{Low, Leads}
-use Rattle.places.specs.Bytes.{Lone, Held}
+use Rattle.places.specs.Bytes.{Held}
 use Rattle.places.proofs.Windows.{lone-inside, lone-wider, lone-before, held-assigned, lone-order}
 use Rattle.places.proofs.GroupPlaces.{Furthest, furthest-assigned}
-use Rattle.fronts.specs.Fronts.{Later}
-use Rattle.fronts.specs.Picks.{FirstMember, Chosen, Picking}
+use Rattle.fronts.specs.Picks.{FirstMember, Picking}
 use Rattle.fronts.proofs.Orders.{later-not}
 
 -- ---- the bytes of what a block takes

@@ -1,9 +1,9 @@
 -- The first cut, one block more: what is settled stays, and the first list of the rest makes it whole. Assumes nothing.
 use mathlib.Core.Path.{_≡_, refl, sym, ap, ap₂, _∙_, subst}
-use mathlib.Core.Logic.{_⊎_, inl, inr, ⊎-elim}
+use mathlib.Core.Logic.{⊎-elim}
 use mathlib.Core.Bool.{Bool, true, false}
 use mathlib.Core.List.{List, [], _∷_, _++_, append-assoc, append-nil}
-use Prim.Native.Nat.{ℕ, zero, suc, _+_, _-_, _≤_, _<_}
+use Prim.Native.Nat.{ℕ, _+_, _-_, _≤_, _<_}
 use native.Mathlib.Omega.{arith}
 use lib.ListN.{length, getD, take, replicate, length-append, length-replicate, getD-replicate, length-take, List·getD-append}
 use lib.Seq.{getD-take, getD-append-add, ext-getD}
@@ -13,10 +13,9 @@ use Rattle.facts.proofs.Cases.{same?, below, clash}
 use Rattle.byte_order.specs.ByteOrder.{earlier, First}
 use Rattle.byte_order.proofs.ByteOrder.{earlier-append-same, earlier-irreflexive}
 use Rattle.blocks.specs.declared.Block.{Block}
-use Rattle.blocks.specs.Pieces.{Takes, Cuts, Best}
+use Rattle.blocks.specs.Pieces.{Cuts, Best}
 use Rattle.blocks.proofs.Cutting.{cuts-order}
-use Rattle.places.specs.Ways.{Way, Ways, Leads}
-use Rattle.places.proofs.Backward.{ways-low}
+use Rattle.places.specs.Ways.{Way, Ways}
 use Rattle.fronts.specs.Fronts.{Onward, Later, Pieced, Reached, Step, Leading, Standing, Moved}
 use Rattle.fronts.proofs.Orders.{later-not}
 

@@ -14,9 +14,8 @@ use mathlib.Core.Path.{_≡_}
 use mathlib.Core.Logic.{_⊎_}
 use mathlib.Core.Bool.{Bool, true}
 use mathlib.Core.List.{List, _++_}
-use Prim.Native.Nat.{ℕ, _+_, _-_, _≤_, _<_}
+use Prim.Native.Nat.{ℕ, _-_, _≤_, _<_}
 use lib.ListN.{length, getD, take, replicate}
-use lib.Seq.{slice}
 use Rattle.masks.specs.Masks.{bit}
 use Rattle.blocks.specs.declared.Block.{Block}
 use Rattle.blocks.specs.Pieces.{Takes, Cuts}

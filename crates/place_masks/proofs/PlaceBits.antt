@@ -1,17 +1,17 @@
 -- The bits of a mask of places: cut off, moved, filled; its least and its greatest place. Assumes nothing.
 use mathlib.Core.Path.{_≡_, refl, sym, ap, ap₂, _∙_, subst}
-use mathlib.Core.Logic.{_⊎_, inl, inr, ⊎-elim}
-use mathlib.Core.Bool.{Bool, true, false, not, _&&_, _||_, and-true}
+use mathlib.Core.Logic.{⊎-elim}
+use mathlib.Core.Bool.{Bool, true, false, not, _&&_}
 use Prim.Native.Nat.{ℕ, zero, suc, _+_, _-_, _*_, _/_, _%_, _^_, _≤_, _<_}
-use native.Mathlib.Nat.{div-eq-of-lt, div-lt-iff-lt-mul, le-div-iff-mul-le, lt-of-lt-of-le, mod-eq-of-lt, one-mul, pow-suc}
+use native.Mathlib.Nat.{div-eq-of-lt, div-lt-iff-lt-mul, le-div-iff-mul-le, lt-of-lt-of-le, one-mul, pow-suc}
 use native.Mathlib.Omega.{arith}
-use lib.Dec.{eqb, leb, ltb, lit<}
+use lib.Dec.{eqb, leb, ltb}
 use lib.Bits.{bitAnd, bitXor}
-use lib.Pow.{pow-pos, pow-mono, pow-lt, ones-split, ones-lt, high}
+use lib.Pow.{pow-pos, pow-mono, ones-split, ones-lt, high}
 use lib.Count.{leadingZeros, trailingZeros, leading-top}
 use borrow.Author.Tests.{le-leb, lt-leb, lt-ltb, le-ltb}
 use Rattle.masks.specs.Masks.{bit}
-use Rattle.facts.proofs.Cases.{below, clash, not-so, holds?}
+use Rattle.facts.proofs.Cases.{below, clash, not-so}
 use Rattle.masks.proofs.Masks.{odd, bit-and, bit-xor, bit-past, bit-none, odd-digit, zero-digit}
 use Rattle.masks.proofs.Shifted.{bit-shr, bit-shl, bit-shl-low, bit-cut}
 use Rattle.place_masks.specs.Places.{Least, Greatest}

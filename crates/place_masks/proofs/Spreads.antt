@@ -1,8 +1,8 @@
 -- Places spread by spare elements: a few at a time, all at once, or moved first. Assumes nothing.
-use mathlib.Core.Path.{_≡_, refl, sym, ap, ap₂, _∙_, subst}
-use mathlib.Core.Logic.{_⊎_, inl, inr, ⊎-elim}
-use mathlib.Core.Bool.{Bool, true, false, _&&_, _||_}
-use Prim.Native.Nat.{ℕ, zero, suc, _+_, _-_, _/_, _^_, _≤_, _<_, min}
+use mathlib.Core.Path.{_≡_, sym, _∙_, subst}
+use mathlib.Core.Logic.{⊎-elim}
+use mathlib.Core.Bool.{true, _&&_, _||_}
+use Prim.Native.Nat.{ℕ, _+_, _-_, _/_, _^_, _≤_, _<_}
 use native.Mathlib.Omega.{arith}
 use lib.Dec.{leb, ltb}
 use lib.Count.{leadingZeros}
@@ -11,7 +11,7 @@ use Rattle.masks.specs.Masks.{bit}
 use Rattle.facts.proofs.Cases.{below, clash, and-left, and-right, both, one-of, or-left, or-right}
 use Rattle.masks.proofs.Masks.{bit-none}
 use Rattle.masks.proofs.Shifted.{bit-shr}
-use Rattle.place_masks.specs.Places.{Least, Greatest, Ahead, Behind, Before, After}
+use Rattle.place_masks.specs.Places.{Least, Ahead, Behind, Before, After}
 use Rattle.place_masks.proofs.PlaceBits.{bit-inside, bit-ones, leading-pos, greatest-place}
 
 -- ---- one place more, or further

@@ -1,14 +1,13 @@
 -- The contracts of the public functions allow one result each. Stated of the contracts themselves, as the check reads them. Assumes nothing.
 use mathlib.Core.Path.{_≡_, refl, sym, _∙_}
-use mathlib.Core.Logic.{⊎-elim}
 use mathlib.Core.Bool.{Bool, true, false}
-use Prim.Native.Nat.{ℕ, _≤_}
+use Prim.Native.Nat.{ℕ}
 use native.Mathlib.Omega.{arith}
 use borrow.Fn.Kinds.{Dens, resT, endedOf}
 use contract.Lifetimes.{Lfts}
 use denote.Triple.Clauses.{AtExit}
 use Rattle.masks.specs.Masks.{bit}
-use Rattle.facts.proofs.Cases.{holds?, clash, not-so}
+use Rattle.facts.proofs.Cases.{clash, not-so}
 use Rattle.masks.proofs.Masks.{bits-same}
 use Rattle.place_masks.specs.Places.{Least, Greatest, Before, After}
 use Rattle.place_masks.proofs.up_to.Reads as up-to-reads

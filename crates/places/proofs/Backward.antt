@@ -1,32 +1,33 @@
 -- The places from which blocks go on, one block more at a time. Assumes nothing.
-use mathlib.Core.Path.{_≡_, refl, sym, ap, ap₂, _∙_, subst}
-use mathlib.Core.Logic.{_⊎_, inl, inr, ⊎-elim}
+use mathlib.Core.Path.{_≡_, refl, sym, ap, _∙_, subst}
+use mathlib.Core.Logic.{⊎-elim}
 use mathlib.Core.Bool.{Bool, true, false, _&&_}
 use mathlib.Core.List.{List, [], _∷_, _++_}
 use Prim.Native.Nat.{ℕ, zero, suc, _+_, _-_, _≤_, _<_}
 use native.Mathlib.Omega.{arith}
 use lib.Dec.{eqb}
-use lib.ListN.{length, getD, drop, replicate, length-replicate, getD-replicate}
+use lib.ListN.{length, getD, replicate, length-replicate, getD-replicate}
 use borrow.Author.Tests.{eqb-true}
 use Rattle.masks.specs.Masks.{bit, Plus}
 use Rattle.masks.proofs.Masks.{bit-none}
 use Rattle.facts.specs.Counting.{between, cnt}
-use Rattle.facts.proofs.Cases.{same?, clash, not-so, holds?, and-left, and-right, hit, miss}
-use Rattle.facts.proofs.Counting.{cnt-place}
-use Rattle.facts.proofs.Spans.{between-in, between-from, between-to}
-use Rattle.place_masks.specs.Places.{Ahead, Before}
+use Rattle.facts.proofs.Cases.{same?, clash, and-left, and-right, hit, miss}
+use Rattle.facts.proofs.Spans.{between-in, between-to}
+use Rattle.place_masks.specs.Places.{Before}
 use Rattle.blocks.specs.declared.Block.{Block}
-use Rattle.blocks.specs.Assignment.{takes, Assigns}
-use Rattle.blocks.specs.Numbers.{blockIn}
+use Rattle.blocks.specs.Assignment.{takes}
 use Rattle.blocks.specs.Pieces.{Takes, Cuts}
 use Rattle.blocks.proofs.Assignments.{takes-spare, takes-member, takes-inv, assigns-rows}
 use Rattle.blocks.proofs.Cutting.{cuts-order}
-use Rattle.blocks.proofs.LentBlocks.{lent, lent-none, lent-at}
-use Rattle.places.specs.Ways.{Way, Ways, Low, Leads, Back, isOne, Agrees}
+use Rattle.places.specs.Ways.{Ways, Low, Leads, Back, isOne, Agrees}
 
 -- ---- the places are those of the list
 pub ways-low : {may : ℕ → ℕ → Bool} {bs : List Block} {n good : ℕ} → Ways may bs n good → Low good n
 ways-low {may} {bs} {n} {good} g e h = let w = g .some e h in cuts-order may bs e n (w .list) (w .cut)
+
+-- a place that is not among them has no cut
+pub ways-never : {may : ℕ → ℕ → Bool} {bs : List Block} {n good : ℕ} → Ways may bs n good → (p : ℕ) → bit good p ≡ false → (w : List ℕ) → Cuts may bs p n w → ⊥
+ways-never g p f w c = clash (g .all p (record { list = w; cut = c })) f
 
 -- ---- no blocks: the end, and no other place
 pub ways-end : (may : ℕ → ℕ → Bool) (n : ℕ) {good : ℕ} → Plus (bit 0) n (bit good) → Ways may [] n good
@@ -167,13 +168,3 @@ back-one {may} {b} {good} {r} h l f = record {
   some = λ p x. let t = f .some p x in record { place = p + 1; here = t .0; after = omega arith; piece = b .first ∷ []; taken = one-taken may b p h (t .1) };
   all = λ p x. let t = taken-one (x .piece) h l (x .after) (x .taken) in f .all p (subst (λ (z : ℕ). bit good z ≡ true) (t .0) (x .here)) (t .2);
 }
-
--- ---- blocks that are read of lent numbers
-pub lent-end : (may : ℕ → ℕ → Bool) (count : ℕ) (vs : List ℕ) (n : ℕ) {good : ℕ} → Plus (bit 0) n (bit good) → Ways may (drop count (lent count vs)) n good
-lent-end may count vs n {good} one = subst (λ (bs : List Block). Ways may bs n good) (sym (lent-none count vs)) (ways-end may n one)
-
-pub lent-back : {may : ℕ → ℕ → Bool} (count : ℕ) (vs : List ℕ) (j i : ℕ) {n good r : ℕ} {b : Block} → b ≡ blockIn (getD vs i 0) → j ≡ suc i → j ≤ count
-    → Back may b good r → Ways may (drop j (lent count vs)) n good → Ways may (drop i (lent count vs)) n r
-lent-back {may} count vs j i {n} {good} {r} {b} is q l f g =
-    let e : drop i (lent count vs) ≡ b ∷ drop j (lent count vs) = lent-at count vs i (omega arith) ∙ rw (is, q) in
-    subst (λ (bs : List Block). Ways may bs n r) (sym e) (ways-back f g)

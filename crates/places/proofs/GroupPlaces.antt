@@ -1,25 +1,24 @@
 -- The places from which a group leads to those that are good: one search for the furthest end, and what it serves. Assumes nothing.
-use mathlib.Core.Path.{_≡_, refl, sym, ap, ap₂, _∙_, subst}
-use mathlib.Core.Logic.{_⊎_, inl, inr, ⊎-elim}
+use mathlib.Core.Path.{_≡_, sym, ap, _∙_, subst}
+use mathlib.Core.Logic.{inl, inr, ⊎-elim}
 use mathlib.Core.Bool.{Bool, true, false, not, _&&_, _||_}
 use mathlib.Core.List.{List}
-use Prim.Native.Nat.{ℕ, _+_, _-_, _≤_, _<_}
+use Prim.Native.Nat.{ℕ, _+_, _≤_, _<_}
 use native.Mathlib.Omega.{arith}
 use lib.Dec.{leb}
 use lib.Seq.{slice}
-use borrow.Author.Tests.{le-leb, leb-true, not-true, not-false}
+use borrow.Author.Tests.{le-leb, leb-true, not-true}
 use Rattle.masks.specs.Masks.{bit, Plus}
 use Rattle.masks.proofs.Masks.{bit-none}
-use Rattle.facts.specs.Counting.{between, count}
-use Rattle.facts.proofs.Cases.{same?, below, clash, not-so, holds?, and-left, and-right, both, one-of, or-left, or-right}
+use Rattle.facts.specs.Counting.{count}
+use Rattle.facts.proofs.Cases.{same?, clash, not-so, holds?, and-left, and-right, both, one-of, or-left, or-right}
 use Rattle.facts.proofs.Counting.{count-less}
-use Rattle.place_masks.specs.Places.{Greatest, Ahead, Before}
+use Rattle.place_masks.specs.Places.{Greatest, Before}
 use Rattle.blocks.specs.declared.Block.{Block}
 use Rattle.blocks.specs.Assignment.{Assigns}
-use Rattle.blocks.specs.Pieces.{Takes}
 use Rattle.assign.specs.Answer.{Answer}
 use Rattle.places.specs.Ways.{Low, Leads, Back, Led, Sought}
-use Rattle.places.specs.Bytes.{Lone, Held, AfterLast}
+use Rattle.places.specs.Bytes.{Lone, AfterLast}
 use Rattle.places.proofs.Windows.{lone-wider, lone-last, placed, held-placed, held-assigned, held-wider}
 
 -- ---- the furthest of the places up to `most`

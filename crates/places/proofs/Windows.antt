@@ -1,23 +1,24 @@
 -- Pieces at their places in 32 bytes, with 255 around: seen through other windows, put there, and compared. Assumes nothing.
-use mathlib.Core.Path.{_≡_, refl, sym, ap, ap₂, _∙_, subst}
-use mathlib.Core.Logic.{_⊎_, inl, inr, ⊎-elim}
+use mathlib.Core.Path.{_≡_, sym, ap, ap₂, _∙_, subst}
+use mathlib.Core.Logic.{⊎-elim}
 use mathlib.Core.Bool.{Bool, true, false}
-use mathlib.Core.List.{List, [], _∷_, _++_, append-assoc}
-use Prim.Native.Nat.{ℕ, zero, suc, _+_, _-_, _≤_, _<_}
+use mathlib.Core.List.{List, _++_, append-assoc}
+use Prim.Native.Nat.{ℕ, _+_, _-_, _≤_, _<_}
 use native.Mathlib.Omega.{arith}
 use lib.ListN.{length, getD, take, drop, replicate, length-append, length-replicate, getD-replicate, List·getD-append, take-append-drop, length-take, length-drop}
 use lib.Seq.{slice, length-slice, getD-append-add, getD-take, getD-drop, ext-getD, take-take}
-use Rattle.facts.specs.Counting.{between, cnt}
+use Rattle.facts.specs.Counting.{between}
 use Rattle.facts.proofs.Cases.{same?, below, holds?, clash, not-so}
 use Rattle.facts.proofs.Spans.{between-in, between-from, between-to, between-below, between-past}
-use Rattle.facts.proofs.Slices.{slice-at, slice-split, cnt-slice}
-use Rattle.byte_order.specs.ByteOrder.{earlier, First}
+use Rattle.facts.proofs.Slices.{slice-at, cnt-slice}
+use Rattle.byte_order.specs.ByteOrder.{earlier}
 use Rattle.byte_order.proofs.ByteOrder.{earlier-append-same, earlier-append-not, earlier-irreflexive}
 use Rattle.blocks.specs.Assignment.{takes, Assigns}
 use Rattle.blocks.specs.declared.Block.{Block}
 use Rattle.blocks.specs.Pieces.{Takes}
-use Rattle.blocks.proofs.Assignments.{takes-spare, takes-inv}
+use Rattle.blocks.proofs.Assignments.{takes-spare}
 use Rattle.places.specs.Bytes.{Lone, Held, AfterLast}
+use Rattle.places.proofs.Blanks.{slice-front}
 
 -- ---- windows
 -- a byte that is not 255 stands inside
@@ -135,20 +136,7 @@ module _ (from to : ℕ) (p : List ℕ) (size : length p ≡ to - from) (o : fro
   pub placed-from : (start : ℕ) → start ≤ from → slice start to (placed from p) ≡ replicate (from - start) 255 ++ p
   placed-from start l =
       let long = placed-length in
-      let n = length-slice start to (placed from p) (omega arith) in
-      let x = length-replicate {A = ℕ} (from - start) 255 in
-      let m = length-append (replicate (from - start) 255) p in
-      ext-getD 0 (slice start to (placed from p)) (replicate (from - start) 255 ++ p) (omega arith) (λ i h.
-      slice-at start to (placed from p) i (omega arith) ∙ ⊎-elim
-      (λ (k : i < from - start). placed-before (start + i) (omega arith)
-      ∙ sym (List·getD-append (replicate (from - start) 255) p 0 i (omega arith) ∙ getD-replicate {A = ℕ} (from - start) i 255 0 k))
-      (λ (k : from - start ≤ i).
-      let j = i - (from - start) in
-      let a : start + i ≡ from + j = omega arith in
-      let b : i ≡ length (replicate {A = ℕ} (from - start) 255) + j = omega arith in
-      ap (λ (d : ℕ). getD (placed from p) d 0) a ∙ placed-in j (omega arith)
-      ∙ sym (ap (λ (d : ℕ). getD (replicate (from - start) 255 ++ p) d 0) b ∙ getD-append-add (replicate (from - start) 255) p j 0))
-      (below i (from - start)))
+      slice-front start from to (placed from p) l o (omega arith) (λ i a z. placed-before i z) ∙ ap (λ (z : List ℕ). replicate (from - start) 255 ++ z) placed-slice
 
 -- ---- what a block takes, at its place
 pub held-placed : {may : ℕ → ℕ → Bool} {b : Block} {from to : ℕ} {p : List ℕ} → from ≤ to → to ≤ 32 → Takes may b from to p → Held may b from to (placed from p)

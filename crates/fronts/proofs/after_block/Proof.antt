@@ -7,12 +7,6 @@ use native.Mathlib.Omega.{arith}
 use borrow.Author.Needs.{needs}
 use Rattle.fronts.proofs.after_block.Statement.{statement}
 use Rattle.fronts.proofs.after_block.Tie as tie
-use Rattle.fronts.proofs.after_block.Reads as reads
-use Rattle.fronts.proofs.after_block.Lts as lts
-use Rattle.fronts.proofs.after_group.Reads as after-group-reads
-use Rattle.fronts.proofs.after_one.Reads as after-one-reads
-use Rattle.fronts.proofs.after_star.Reads as after-star-reads
-use Rattle.places.proofs.is_one.Reads as is-one-reads
 
 after-star-requires : tie.Need-after-star-requires
 after-star-requires c κs = let s = c .before .before in let r = s .pre .2 in (c .if1 .taken, low-most (s .args .ends) (r .n) (r .high) (r .ready .low))

@@ -3,16 +3,6 @@ use Rattle.fronts.proofs.Moves.{picked-order, nexts-are, group-moved}
 use borrow.Author.Needs.{needs}
 use Rattle.fronts.proofs.after_group.Statement.{statement}
 use Rattle.fronts.proofs.after_group.Tie as tie
-use Rattle.fronts.proofs.after_group.Reads as reads
-use Rattle.fronts.proofs.after_group.Lts as lts
-use Rattle.fronts.proofs.copy_piece.Reads as copy-piece-reads
-use Rattle.fronts.proofs.pick.first_member.Reads as first-member-reads
-use Rattle.fronts.proofs.pick.first_piece.Reads as first-piece-reads
-use Rattle.place_masks.proofs.after_spares.Reads as after-spares-reads
-use Rattle.place_masks.proofs.from_on.Reads as from-on-reads
-use Rattle.place_masks.proofs.in_both.Reads as in-both-reads
-use Rattle.place_masks.proofs.up_to.Reads as up-to-reads
-use Rattle.places.proofs.after_last.Reads as after-last-reads
 
 first-piece-requires : tie.Need-first-piece-requires
 first-piece-requires c κs = search needs

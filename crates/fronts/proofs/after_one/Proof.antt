@@ -4,10 +4,6 @@ use native.Mathlib.Omega.{arith}
 use borrow.Author.Needs.{needs}
 use Rattle.fronts.proofs.after_one.Statement.{statement}
 use Rattle.fronts.proofs.after_one.Tie as tie
-use Rattle.fronts.proofs.after_one.Reads as reads
-use Rattle.fronts.proofs.after_one.Lts as lts
-use Rattle.masks.proofs.with_place.Reads as with-place-reads
-use Rattle.place_masks.proofs.lowest_place.Reads as lowest-place-reads
 
 lowest-place-requires : tie.Need-lowest-place-requires
 lowest-place-requires c κs = search needs

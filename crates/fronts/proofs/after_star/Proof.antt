@@ -3,10 +3,6 @@ use Rattle.fronts.proofs.Moves.{star-moved}
 use borrow.Author.Needs.{needs}
 use Rattle.fronts.proofs.after_star.Statement.{statement}
 use Rattle.fronts.proofs.after_star.Tie as tie
-use Rattle.fronts.proofs.after_star.Reads as reads
-use Rattle.fronts.proofs.after_star.Lts as lts
-use Rattle.place_masks.proofs.after_spares.Reads as after-spares-reads
-use Rattle.place_masks.proofs.in_both.Reads as in-both-reads
 
 cast-after-spares : tie.Need-cast-after-spares
 cast-after-spares c = search needs

@@ -6,8 +6,6 @@ use Rattle.assign.proofs.Splices.{splice-start, splice-step}
 use native.Mathlib.Omega.{arith}
 use Rattle.fronts.proofs.copy_piece.Statement.{statement}
 use Rattle.fronts.proofs.copy_piece.Tie as tie
-use Rattle.fronts.proofs.copy_piece.Reads as reads
-use Rattle.fronts.proofs.copy_piece.Lts as lts
 
 abbrev Inv-loop : tie.InvT-loop
 Inv-loop a from to w₀ e₀ w e = (from ≤ e) × (e ≤ to) × Spliced a w₀ from e w

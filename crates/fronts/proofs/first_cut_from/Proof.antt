@@ -10,11 +10,6 @@ use native.Mathlib.Omega.{arith}
 use borrow.Author.Needs.{needs}
 use Rattle.fronts.proofs.first_cut_from.Statement.{statement}
 use Rattle.fronts.proofs.first_cut_from.Tie as tie
-use Rattle.fronts.proofs.first_cut_from.Reads as reads
-use Rattle.fronts.proofs.first_cut_from.Lts as lts
-use Rattle.blocks.proofs.block_at.Reads as block-at-reads
-use Rattle.fronts.proofs.after_block.Reads as after-block-reads
-use Rattle.masks.proofs.with_place.Reads as with-place-reads
 
 abbrev Inv-loop : tie.InvT-loop
 Inv-loop rows blocks count ends n w₀ f₀ j₀ w f j = (j ≤ count) × ((may : ℕ → ℕ → Bool) → Prepares may rows count blocks ends n → Underway may (lent count blocks) (drop j (lent count blocks)) n (f .places) (f .from) w)

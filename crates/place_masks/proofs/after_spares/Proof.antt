@@ -1,16 +1,10 @@
 -- `after_spares` meets its contract: moved by the least number of elements, then spread by the rest. Assumes nothing.
 use Prim.Native.Nat.{_-_}
-use Rattle.place_masks.proofs.PlaceBits.{bit-inside}
 use Rattle.place_masks.proofs.Spreads.{after-none, after-moved}
 use native.Mathlib.Omega.{arith}
 use borrow.Author.Needs.{needs}
 use Rattle.place_masks.proofs.after_spares.Statement.{statement}
 use Rattle.place_masks.proofs.after_spares.Tie as tie
-use Rattle.place_masks.proofs.after_spares.Reads as reads
-use Rattle.place_masks.proofs.after_spares.Lts as lts
-use Rattle.place_masks.proofs.all_above.Reads as all-above-reads
-use Rattle.place_masks.proofs.moved_up.Reads as moved-up-reads
-use Rattle.place_masks.proofs.spread_up.Reads as spread-up-reads
 
 returns : tie.Need-returns
 returns c = after-none _ _ (λ e l a. let n = a .near in omega arith)

@@ -5,10 +5,6 @@ use native.Mathlib.Omega.{arith}
 use borrow.Author.Needs.{needs}
 use Rattle.place_masks.proofs.all_above.Statement.{statement}
 use Rattle.place_masks.proofs.all_above.Tie as tie
-use Rattle.place_masks.proofs.all_above.Reads as reads
-use Rattle.place_masks.proofs.all_above.Lts as lts
-use Rattle.place_masks.proofs.from_on.Reads as from-on-reads
-use Rattle.place_masks.proofs.lowest_place.Reads as lowest-place-reads
 
 returns : tie.Need-returns
 returns c = λ more w. after-none 0 more (λ e l a. let z = bit-pos (c .before .args .places) (a .place) (a .here) in omega arith)

@@ -5,8 +5,6 @@ use Rattle.place_masks.proofs.Spreads.{before-none, before-all}
 use native.Mathlib.Omega.{arith}
 use Rattle.place_masks.proofs.all_below.Statement.{statement}
 use Rattle.place_masks.proofs.all_below.Tie as tie
-use Rattle.place_masks.proofs.all_below.Reads as reads
-use Rattle.place_masks.proofs.all_below.Lts as lts
 
 returns : tie.Need-returns
 returns c = λ more w. before-none 0 more (λ p a. let z = bit-pos (c .before .args .places) (a .place) (a .here) in omega arith)

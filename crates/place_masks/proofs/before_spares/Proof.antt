@@ -6,11 +6,6 @@ use native.Mathlib.Omega.{arith}
 use borrow.Author.Needs.{needs}
 use Rattle.place_masks.proofs.before_spares.Statement.{statement}
 use Rattle.place_masks.proofs.before_spares.Tie as tie
-use Rattle.place_masks.proofs.before_spares.Reads as reads
-use Rattle.place_masks.proofs.before_spares.Lts as lts
-use Rattle.place_masks.proofs.all_below.Reads as all-below-reads
-use Rattle.place_masks.proofs.moved_down.Reads as moved-down-reads
-use Rattle.place_masks.proofs.spread_down.Reads as spread-down-reads
 
 returns : tie.Need-returns
 returns c = before-none _ _ (λ p a. let n = a .near in let f = a .far in let z = bit-inside 64 (c .before .args .places) (a .place) (c .before .fits .places .fits) (a .here) in omega arith)

@@ -4,8 +4,6 @@ use native.Mathlib.Omega.{arith}
 use borrow.Author.Needs.{needs}
 use Rattle.place_masks.proofs.from_on.Statement.{statement}
 use Rattle.place_masks.proofs.from_on.Tie as tie
-use Rattle.place_masks.proofs.from_on.Reads as reads
-use Rattle.place_masks.proofs.from_on.Lts as lts
 
 returns : tie.Need-returns
 returns c = λ e. cut-none (c .before .args .places) (c .before .args .p) e (c .before .fits .places .fits) (omega arith)

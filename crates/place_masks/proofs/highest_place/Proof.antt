@@ -5,8 +5,6 @@ use Rattle.place_masks.proofs.PlaceBits.{greatest-place, leading-pos}
 use native.Mathlib.Omega.{arith}
 use Rattle.place_masks.proofs.highest_place.Statement.{statement}
 use Rattle.place_masks.proofs.highest_place.Tie as tie
-use Rattle.place_masks.proofs.highest_place.Reads as reads
-use Rattle.place_masks.proofs.highest_place.Lts as lts
 
 cast-result : tie.Need-cast-result
 cast-result c = omega (arith, leading-le 64 (c .args .places))

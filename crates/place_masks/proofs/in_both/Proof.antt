@@ -2,8 +2,6 @@
 use Rattle.masks.proofs.Masks.{bit-and}
 use Rattle.place_masks.proofs.in_both.Statement.{statement}
 use Rattle.place_masks.proofs.in_both.Tie as tie
-use Rattle.place_masks.proofs.in_both.Reads as reads
-use Rattle.place_masks.proofs.in_both.Lts as lts
 
 returns : tie.Need-returns
 returns c = λ e. bit-and (c .args .a) (c .args .b) e

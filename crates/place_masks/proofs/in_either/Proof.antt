@@ -2,8 +2,6 @@
 use Rattle.masks.proofs.Masks.{bit-or}
 use Rattle.place_masks.proofs.in_either.Statement.{statement}
 use Rattle.place_masks.proofs.in_either.Tie as tie
-use Rattle.place_masks.proofs.in_either.Reads as reads
-use Rattle.place_masks.proofs.in_either.Lts as lts
 
 returns : tie.Need-returns
 returns c = λ e. bit-or (c .args .a) (c .args .b) e

@@ -2,8 +2,6 @@
 use Rattle.place_masks.proofs.PlaceBits.{without-bits}
 use Rattle.place_masks.proofs.left_out.Statement.{statement}
 use Rattle.place_masks.proofs.left_out.Tie as tie
-use Rattle.place_masks.proofs.left_out.Reads as reads
-use Rattle.place_masks.proofs.left_out.Lts as lts
 
 returns : tie.Need-returns
 returns c = λ e. without-bits 64 (c .args .a) (c .args .b) e (c .fits .a .fits)

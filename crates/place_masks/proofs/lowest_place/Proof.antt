@@ -4,8 +4,6 @@ use Rattle.place_masks.proofs.PlaceBits.{least-place}
 use native.Mathlib.Omega.{arith}
 use Rattle.place_masks.proofs.lowest_place.Statement.{statement}
 use Rattle.place_masks.proofs.lowest_place.Tie as tie
-use Rattle.place_masks.proofs.lowest_place.Reads as reads
-use Rattle.place_masks.proofs.lowest_place.Lts as lts
 
 cast-result : tie.Need-cast-result
 cast-result c = omega (arith, trailing-le 64 (c .args .places))

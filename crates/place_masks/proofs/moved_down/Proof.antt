@@ -3,8 +3,6 @@ use Rattle.masks.proofs.Shifted.{bit-shr}
 use borrow.Author.Needs.{needs}
 use Rattle.place_masks.proofs.moved_down.Statement.{statement}
 use Rattle.place_masks.proofs.moved_down.Tie as tie
-use Rattle.place_masks.proofs.moved_down.Reads as reads
-use Rattle.place_masks.proofs.moved_down.Lts as lts
 
 shr-result : tie.Need-shr-result
 shr-result c = search needs

@@ -3,8 +3,6 @@ use Rattle.place_masks.proofs.PlaceBits.{moved-up}
 use borrow.Author.Needs.{needs}
 use Rattle.place_masks.proofs.moved_up.Statement.{statement}
 use Rattle.place_masks.proofs.moved_up.Tie as tie
-use Rattle.place_masks.proofs.moved_up.Reads as reads
-use Rattle.place_masks.proofs.moved_up.Lts as lts
 
 shl-result : tie.Need-shl-result
 shl-result c = search needs

@@ -7,11 +7,6 @@ use native.Mathlib.Omega.{arith}
 use borrow.Author.Needs.{needs}
 use Rattle.place_masks.proofs.spread_down.Statement.{statement}
 use Rattle.place_masks.proofs.spread_down.Tie as tie
-use Rattle.place_masks.proofs.spread_down.Reads as reads
-use Rattle.place_masks.proofs.spread_down.Lts as lts
-use Rattle.masks.proofs.lesser.Reads as lesser-reads
-use Rattle.place_masks.proofs.in_either.Reads as in-either-reads
-use Rattle.place_masks.proofs.moved_down.Reads as moved-down-reads
 
 abbrev Inv-loop : tie.InvT-loop
 Inv-loop places more r₀ done₀ r done = (done ≤ more) × Before places 0 done r

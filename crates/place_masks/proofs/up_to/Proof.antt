@@ -13,8 +13,6 @@ use native.Mathlib.Omega.{arith}
 use borrow.Author.Needs.{needs}
 use Rattle.place_masks.proofs.up_to.Statement.{statement}
 use Rattle.place_masks.proofs.up_to.Tie as tie
-use Rattle.place_masks.proofs.up_to.Reads as reads
-use Rattle.place_masks.proofs.up_to.Lts as lts
 
 one-shifted : (p : ℕ) → p < 63 → 1 * 2 ^ (p + 1) % 2 ^ 64 ≡ 2 ^ suc p
 one-shifted p l = shl-exact 1 (p + 1) 64 (lit< tt) (omega arith) ∙ one-mul (2 ^ (p + 1)) ∙ ap (λ (z : ℕ). 2 ^ z) (add-one p)

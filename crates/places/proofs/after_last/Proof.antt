@@ -7,8 +7,6 @@ use mathlib.Core.Path.{_≡_, sym, subst}
 use native.Mathlib.Omega.{arith}
 use Rattle.places.proofs.after_last.Statement.{statement}
 use Rattle.places.proofs.after_last.Tie as tie
-use Rattle.places.proofs.after_last.Reads as reads
-use Rattle.places.proofs.after_last.Lts as lts
 
 abbrev Inv-loop : tie.InvT-loop
 Inv-loop w from to p₀ p = (from ≤ p) × (p ≤ to) × ((i : ℕ) → p ≤ i → i < to → getD w i 0 ≡ 255)

@@ -8,14 +8,6 @@ use native.Mathlib.Omega.{arith}
 use borrow.Author.Needs.{needs}
 use Rattle.places.proofs.before_group.Statement.{statement}
 use Rattle.places.proofs.before_group.Tie as tie
-use Rattle.places.proofs.before_group.Reads as reads
-use Rattle.places.proofs.before_group.Lts as lts
-use Rattle.masks.proofs.with_place.Reads as with-place-reads
-use Rattle.place_masks.proofs.before_spares.Reads as before-spares-reads
-use Rattle.place_masks.proofs.highest_place.Reads as highest-place-reads
-use Rattle.place_masks.proofs.in_either.Reads as in-either-reads
-use Rattle.place_masks.proofs.left_out.Reads as left-out-reads
-use Rattle.places.proofs.led_from.Reads as led-from-reads
 
 abbrev Inv-loop : tie.InvT-loop
 Inv-loop rows b good todo₀ r₀ todo r = Sought (may rows) b good todo r

@@ -4,22 +4,14 @@ use Rattle.facts.proofs.Cases.{both}
 use Rattle.masks.specs.Masks.{bit}
 use borrow.Author.Tests.{le-leb, not-true, not-false}
 use lib.Dec.{leb}
-use mathlib.Core.Bool.{true, _&&_}
+use mathlib.Core.Bool.{true}
 use Prim.Native.Nat.{_+_, _≤_}
-use mathlib.Core.Path.{_≡_, sym, _∙_}
+use mathlib.Core.Path.{_≡_, _∙_}
 use Rattle.places.proofs.GroupPlaces.{Furthest, furthest-is, led-none, led-found}
 use native.Mathlib.Omega.{arith}
 use borrow.Author.Needs.{needs}
 use Rattle.places.proofs.led_from.Statement.{statement}
 use Rattle.places.proofs.led_from.Tie as tie
-use Rattle.places.proofs.led_from.Reads as reads
-use Rattle.places.proofs.led_from.Lts as lts
-use Rattle.assign.proofs.first_assignment.Reads as first-assignment-reads
-use Rattle.place_masks.proofs.before_spares.Reads as before-spares-reads
-use Rattle.place_masks.proofs.from_on.Reads as from-on-reads
-use Rattle.place_masks.proofs.highest_place.Reads as highest-place-reads
-use Rattle.place_masks.proofs.up_to.Reads as up-to-reads
-use Rattle.places.proofs.after_last.Reads as after-last-reads
 
 -- the end that is ahead of p is among those that are looked at
 ahead : (c : tie.After-up-to) → bit (c .up-to .result) (c .before .before .before .before .before .pre .2 .place) ≡ true

@@ -7,8 +7,6 @@ use Rattle.fronts.proofs.Orders.{order-end, order-differ, order-agree}
 use native.Mathlib.Omega.{arith}
 use Rattle.fronts.proofs.pick.comes_before.Statement.{statement}
 use Rattle.fronts.proofs.pick.comes_before.Tie as tie
-use Rattle.fronts.proofs.pick.comes_before.Reads as reads
-use Rattle.fronts.proofs.pick.comes_before.Lts as lts
 
 abbrev Inv-loop : tie.InvT-loop
 Inv-loop a b e₀ e = (e ≤ 32) × (earlier a b ≡ earlier (drop e a) (drop e b))

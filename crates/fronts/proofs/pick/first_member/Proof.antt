@@ -7,8 +7,6 @@ use mathlib.Core.Path.{_≡_, sym, subst}
 use native.Mathlib.Omega.{arith}
 use Rattle.fronts.proofs.pick.first_member.Statement.{statement}
 use Rattle.fronts.proofs.pick.first_member.Tie as tie
-use Rattle.fronts.proofs.pick.first_member.Reads as reads
-use Rattle.fronts.proofs.pick.first_member.Lts as lts
 
 abbrev Inv-loop : tie.InvT-loop
 Inv-loop w from to p₀ p = (from ≤ p) × (p ≤ to) × ((i : ℕ) → from ≤ i → i < p → getD w i 0 ≡ 255)

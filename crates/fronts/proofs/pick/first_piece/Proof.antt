@@ -7,10 +7,6 @@ use Rattle.masks.specs.Masks.{bit}
 use native.Mathlib.Omega.{arith}
 use Rattle.fronts.proofs.pick.first_piece.Statement.{statement}
 use Rattle.fronts.proofs.pick.first_piece.Tie as tie
-use Rattle.fronts.proofs.pick.first_piece.Reads as reads
-use Rattle.fronts.proofs.pick.first_piece.Lts as lts
-use Rattle.fronts.proofs.pick.next.Reads as next-reads
-use Rattle.fronts.proofs.pick.start.Reads as start-reads
 
 abbrev Inv-loop : tie.InvT-loop
 Inv-loop rows b places ends best₀ s₀ best s = Picking (may rows) b ends places best (s .to) (s .rest)

@@ -3,11 +3,10 @@ use Rattle.facts.proofs.Cases.{and-left, and-right}
 use Rattle.masks.specs.Masks.{bit}
 use borrow.Author.Tests.{leb-true, not-true, not-false}
 use lib.Dec.{leb}
-use mathlib.Core.Bool.{true, _&&_}
+use mathlib.Core.Bool.{true}
 use mathlib.Core.Path.{_≡_, sym, _∙_}
 use Rattle.fronts.proofs.Picked.{lead-cut, lead-order, pick-skip, pick-keep, pick-change, rest-fewer}
 use Prim.Native.Nat.{ℕ, _+_, _≤_, _<_}
-use Rattle.place_masks.proofs.PlaceBits.{bit-pos}
 use Rattle.rows.specs.Rows.{may}
 use Rattle.places.specs.Ways.{Leads}
 use Rattle.places.proofs.GroupPlaces.{Furthest, furthest-is}
@@ -15,15 +14,6 @@ use native.Mathlib.Omega.{arith}
 use borrow.Author.Needs.{needs}
 use Rattle.fronts.proofs.pick.next.Statement.{statement}
 use Rattle.fronts.proofs.pick.next.Tie as tie
-use Rattle.fronts.proofs.pick.next.Reads as reads
-use Rattle.fronts.proofs.pick.next.Lts as lts
-use Rattle.assign.proofs.first_assignment.Reads as first-assignment-reads
-use Rattle.fronts.proofs.pick.comes_before.Reads as comes-before-reads
-use Rattle.fronts.proofs.pick.first_member.Reads as first-member-reads
-use Rattle.place_masks.proofs.from_on.Reads as from-on-reads
-use Rattle.place_masks.proofs.highest_place.Reads as highest-place-reads
-use Rattle.place_masks.proofs.lowest_place.Reads as lowest-place-reads
-use Rattle.place_masks.proofs.up_to.Reads as up-to-reads
 
 -- ---- what is known after the search for the end
 abbrev begun : tie.After-highest-place → tie.Start

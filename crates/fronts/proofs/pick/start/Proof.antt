@@ -9,14 +9,6 @@ use Rattle.places.proofs.GroupPlaces.{Furthest, furthest-is}
 use borrow.Author.Needs.{needs}
 use Rattle.fronts.proofs.pick.start.Statement.{statement}
 use Rattle.fronts.proofs.pick.start.Tie as tie
-use Rattle.fronts.proofs.pick.start.Reads as reads
-use Rattle.fronts.proofs.pick.start.Lts as lts
-use Rattle.assign.proofs.first_assignment.Reads as first-assignment-reads
-use Rattle.fronts.proofs.pick.first_member.Reads as first-member-reads
-use Rattle.place_masks.proofs.from_on.Reads as from-on-reads
-use Rattle.place_masks.proofs.highest_place.Reads as highest-place-reads
-use Rattle.place_masks.proofs.lowest_place.Reads as lowest-place-reads
-use Rattle.place_masks.proofs.up_to.Reads as up-to-reads
 
 -- ---- what is known after the search for the end
 abbrev begun : tie.After-highest-place → tie.Start
