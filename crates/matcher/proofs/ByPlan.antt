@@ -3,7 +3,7 @@
 -- ready-inside, ready-members: what the search and the rows ask of a plan. rows-agree, agree-from: the rows say of each pair whether it matches.
 -- length-by: the plan's bounds are the length attribute. best-by, pass-by: what the plan's kind, blocks and members allow by the rows is what obeys.
 -- unmet-none: a length that is not met leaves no assignment.
-use mathlib.Core.Path.{_≡_, refl, sym, _∙_}
+use mathlib.Core.Path.{_≡_, refl, sym, ap, _∙_}
 use mathlib.Core.Bool.{Bool, true, false, _&&_}
 use mathlib.Core.Logic.{⊎-elim}
 use mathlib.Core.List.{List, [], _∷_}
@@ -15,8 +15,9 @@ use lib.Dec.{leb, ltb}
 use lib.ListN.{length, getD, take}
 use lib.IntN.{ℤ, pos}
 use Rattle.facts.proofs.Cases.{below, and-right, both, clash, holds?, by-test}
-use Rattle.rows.specs.Rows.{may}
-use Rattle.blocks.specs.Numbers.{blocksIn}
+use Rattle.blocks.specs.declared.Block.{Block}
+use Rattle.blocks.specs.Numbers.{blockIn, blocksIn}
+use Rattle.obeying.proofs.Bodies.{first-block}
 use Rattle.blocks.specs.Pieces.{Inside, Best, Passing}
 use Rattle.blocks.proofs.FirstLists.{best-same, passing-same, passing-holds}
 use Rattle.grammar.specs.Element.{Elem}
@@ -29,11 +30,11 @@ use Rattle.grammar.specs.Members.{memberHits}
 use Rattle.grammar.specs.Blocks.{blockOfGroup, blockOfItem, blocksOfItems, blocksOf, bodyKind, lowOf, highOf, Standing}
 use Rattle.plans.specs.declared.Plan.{Plan}
 use Rattle.plans.specs.Plans.{Planned, PlanOf, refusedPlan, aPlan}
-use Rattle.member_rows.specs.Contract.{RowsOf}
 use Rattle.member_rows.specs.Places.{MembersAt}
 use Rattle.matching.specs.Obeys.{rightBytes, noneTwice, bodyMet, lengthMet, obeysBy, obeys, Obeys}
 use Rattle.matching.proofs.RulesByBlocks.{Agree, ByBlocks, obeys-says, obeys-test}
-use Rattle.witnesses.specs.ByRows.{Allows}
+use Rattle.records.specs.Records.{pairOf, Below}
+use Rattle.witnesses.specs.ByKind.{Allows, OneBlock}
 
 -- ---- the plan of accepted bytes
 
@@ -90,22 +91,12 @@ ready-inside r = rw (r .planned .cut) (blocks-inside (r .body) (few r))
 
 -- ---- the rows say of each pair whether it matches
 
-no-member : (es : List (Elem Leaf)) (m : ℕ) (x : ℤ) → length es ≤ m → memberHits matches es m x ≡ false
-unfolding memberHits
-no-member [] m x l = refl
-no-member (e ∷ es) zero x l = absurd (omega arith)
-no-member (e ∷ es) (suc m) x l = no-member es m x (omega arith)
-
 pub agree-from : (es : List (Elem Leaf)) (related : ℕ → ℕ → Bool) (e : ℕ) (xs : List ℤ) → ((m i : ℕ) → i < length xs → related m (e + i) ≡ memberHits matches es m (getD xs i (pos 0))) → Agree matches es e xs related
 unfolding Agree
 agree-from es related e [] h = tt
 agree-from es related e (x ∷ xs) h =
     let z : e + 0 ≡ e = omega arith in
     (λ m. rw z at (h m 0 (omega arith)), agree-from es related (suc e) xs (λ m i l. let y : suc e + i ≡ e + suc i = omega arith in rw y (h m (suc i) (omega arith))))
-
-rows-agree : (es : List (Elem Leaf)) (xs : List ℤ) (rows : List ℕ) → RowsOf es xs rows → Agree matches es 0 xs (may rows)
-rows-agree es xs rows r =
-    agree-from es (may rows) 0 xs (λ m i l. rw (zero-add i) (⊎-elim (λ (b : m < length es). r .right m i b l) (λ (b : length es ≤ m). r .noMember m i b ∙ sym (no-member es m (getD xs i (pos 0)) b)) (below m (length es))))
 
 -- ---- the length attribute
 
@@ -135,20 +126,54 @@ body-allows (setOf g) related n P h = h
 body-allows (superset es) related n P h = h
 body-allows (subset es) related n P h = h
 
-module _ {t : List ℕ} {p : Plan} {xs : List ℤ} (r : Ready t p (length xs)) (met : lengthMet (r .attribute) (length xs) ≡ true) {rows : List ℕ}
-    (right : (es : List (Elem Leaf)) → Standing t es (take (p .members) (p .places)) → RowsOf es xs rows) where
-  allowed : (P : (List ℕ → Type 0) → Type 0) → P (Allows (p .kind) (blocksIn (take (p .count) (p .blocks))) (p .members) (may rows) (length xs)) → P (ByBlocks (r .body) (may rows) (length xs))
-  allowed P h = let pl = r .planned in body-allows (r .body) (may rows) (length xs) P (rw (pl .kind, pl .cut, pl .size) at h)
+-- ---- what the first witness asks of the blocks
 
-  agrees : Agree matches (membersOf (r .body)) 0 xs (may rows)
-  agrees = rows-agree (membersOf (r .body)) xs rows (right (membersOf (r .body)) (r .planned .stands))
+items-below : {L : Type 0} (m k : ℕ) (is : List (Item L)) → m + length (membersOfItems is) ≤ k → Below k (blocksOfItems m is)
+unfolding Below blocksOfItems membersOfItems
+items-below m k [] l = tt
+items-below m k (i ∷ is) l =
+    let z = lib.ListN.length-append (membersOfItem i) (membersOfItems is) in
+    let e = item-inside m i in
+    (omega arith, items-below (m + length (membersOfItem i)) k is (omega arith))
 
-  there : (v : List ℕ) → ByBlocks (r .body) (may rows) (length xs) v → Obeys (template (r .attribute) (r .body)) xs v
-  there v c = obeys-test matches (r .attribute) (r .body) (may rows) xs agrees (few r) (r .short) v c met
+blocks-below : {L : Type 0} (b : Body L) → Below (length (membersOf b)) (blocksOf b)
+unfolding Below blocksOf membersOf blockOfGroup membersOfGroup
+blocks-below (recordOf is) = items-below 0 (length (membersOfItems is)) is (omega arith)
+blocks-below (setOf (grouped es st)) = (omega arith, tt)
+blocks-below (superset es) = (omega arith, tt)
+blocks-below (subset es) = (omega arith, tt)
 
-  back : (v : List ℕ) → Obeys (template (r .attribute) (r .body)) xs v → ByBlocks (r .body) (may rows) (length xs) v
-  back v o = obeys-says matches (r .attribute) (r .body) (may rows) xs agrees (few r) (r .short) v o .0
+pub ready-below : {t : List ℕ} {p : Plan} {n : ℕ} (r : Ready t p n) → Below (p .members) (blocksIn (take (p .count) (p .blocks)))
+ready-below r = let pl = r .planned in rw (pl .cut, pl .size) (blocks-below (r .body))
 
-  pub best-by : {found : Bool} {w : List ℕ} → Best (Allows (p .kind) (blocksIn (take (p .count) (p .blocks))) (p .members) (may rows) (length xs)) (length xs) found w
+one-body : (kind count : ℕ) (vs : List ℕ) (b : Body Leaf) → kind ≡ bodyKind b → blocksIn (take count vs) ≡ blocksOf b → (kind ≡ 0x10 → ⊥) → blocksIn (take count vs) ≡ blockIn (getD vs 0 0) ∷ []
+unfolding bodyKind blocksOf
+one-body kind count vs (recordOf is) k q n = absurd (n k)
+one-body kind count vs (setOf g) k q n = q ∙ ap (λ (c : Block). c ∷ []) (sym (first-block count vs _ q))
+one-body kind count vs (superset es) k q n = q ∙ ap (λ (c : Block). c ∷ []) (sym (first-block count vs _ q))
+one-body kind count vs (subset es) k q n = q ∙ ap (λ (c : Block). c ∷ []) (sym (first-block count vs _ q))
+
+pub ready-alone : {t : List ℕ} {p : Plan} {n : ℕ} (r : Ready t p n) → OneBlock (p .kind) (p .count) (p .blocks)
+ready-alone {t} {p} r = let pl = r .planned in record { alone = λ n10 n13. one-body (p .kind) (p .count) (p .blocks) (r .body) (pl .kind) (pl .cut) n10 }
+
+-- ---- the first witness
+
+module _ {t : List ℕ} {p : Plan} (xs : List ℤ) (r : Ready t p (length xs)) (met : lengthMet (r .attribute) (length xs) ≡ true) where
+  abbrev related : ℕ → ℕ → Bool
+  related = pairOf (membersOf (r .body)) xs
+
+  allowed : (P : (List ℕ → Type 0) → Type 0) → P (Allows (p .kind) (blocksIn (take (p .count) (p .blocks))) (p .members) related (length xs)) → P (ByBlocks (r .body) related (length xs))
+  allowed P h = let pl = r .planned in body-allows (r .body) related (length xs) P (rw (pl .kind, pl .cut, pl .size) at h)
+
+  agrees : Agree matches (membersOf (r .body)) 0 xs related
+  agrees = agree-from (membersOf (r .body)) related 0 xs (λ m i l. rw (zero-add i) refl)
+
+  there : (v : List ℕ) → ByBlocks (r .body) related (length xs) v → Obeys (template (r .attribute) (r .body)) xs v
+  there v c = obeys-test matches (r .attribute) (r .body) related xs agrees (few r) (r .short) v c met
+
+  back : (v : List ℕ) → Obeys (template (r .attribute) (r .body)) xs v → ByBlocks (r .body) related (length xs) v
+  back v o = obeys-says matches (r .attribute) (r .body) related xs agrees (few r) (r .short) v o .0
+
+  pub best-by : {found : Bool} {w : List ℕ} → ((es : List (Elem Leaf)) → Standing t es (take (p .members) (p .places)) → Best (Allows (p .kind) (blocksIn (take (p .count) (p .blocks))) (p .members) (pairOf es xs) (length xs)) (length xs) found w)
       → Best (Obeys (template (r .attribute) (r .body)) xs) (length xs) found w
-  best-by {found} {w} h = best-same there back (allowed (λ P. Best P (length xs) found w) h)
+  best-by {found} {w} h = best-same there back (allowed (λ P. Best P (length xs) found w) (h (membersOf (r .body)) (r .planned .stands)))

@@ -9,7 +9,6 @@ use lib.ListN.{length, take, drop}
 use lib.Seq.{length-take-le}
 use lib.IntN.{ℤ}
 use Rattle.facts.proofs.Cases.{not-so}
-use Rattle.rows.specs.Rows.{may}
 use Rattle.byte_order.specs.ByteOrder.{First}
 use Rattle.blocks.specs.Numbers.{blocksIn}
 use Rattle.blocks.specs.Pieces.{Best, Passing}
@@ -21,8 +20,8 @@ use Rattle.grammar.specs.Whole.{readTemplate}
 use Rattle.grammar.specs.Blocks.{Standing}
 use Rattle.plans.specs.declared.Plan.{Plan}
 use Rattle.plans.specs.Plans.{PlanOf, refusedPlan, aPlan}
-use Rattle.member_rows.specs.Contract.{RowsOf}
-use Rattle.witnesses.specs.ByRows.{Allows}
+use Rattle.records.specs.Records.{pairOf}
+use Rattle.witnesses.specs.ByKind.{Allows}
 use Rattle.matching.specs.Obeys.{lengthMet, obeys, Obeys}
 use Rattle.matching.specs.Answer.{given, written, matchRead, matchAnswer, judgeRead, judgeAnswer, Taken}
 use Rattle.matching.proofs.FirstWitness.{witness-first}
@@ -71,10 +70,12 @@ module _ (t : List ℕ) (xs : List ℤ) (taken : Taken t xs) (p : Plan) (plan : 
         sym (judged t xs w s taken size (ready .accepted) ∙ ap (λ b. cond b 0 1) (not-so (obeys s xs w) (unmet-none (ready .attribute) (ready .body) xs (sym met-is ∙ f) w)))
 
     -- ---- the length is met
-    module _ (so : met ≡ true) (rows : List ℕ) (right : (es : List (Elem Leaf)) → Standing t es (take (p .members) (p .places)) → RowsOf es xs rows) where
-      module _ (found : Bool) (w : List ℕ) (best : Best (Allows (p .kind) (blocksIn (take (p .count) (p .blocks))) (p .members) (may rows) (length xs)) (length xs) found w) (room : List ℕ) (fits : length xs ≤ length room) where
+    module _ (so : met ≡ true) where
+      module _ (found : Bool) (w : List ℕ)
+          (best : (es : List (Elem Leaf)) → Standing t es (take (p .members) (p .places)) → Best (Allows (p .kind) (blocksIn (take (p .count) (p .blocks))) (p .members) (pairOf es xs) (length xs)) (length xs) found w)
+          (room : List ℕ) (fits : length xs ≤ length room) where
         first : Best (Obeys (template (ready .attribute) (ready .body)) xs) (length xs) found w
-        first = best-by ready (sym met-is ∙ so) right best
+        first = best-by xs ready (sym met-is ∙ so) best
 
         pub match-none : found ≡ false → given 1 room ≡ matchAnswer t xs room
         match-none f = sym (unmatched-where t xs room (template (ready .attribute) (ready .body)) taken fits (ready .accepted) (first .none f))

@@ -16,7 +16,6 @@ use format::OTHER_LENGTH;
 use format::ROOM_TOO_SHORT;
 use format::TEMPLATE_MOST;
 use format::TOO_LONG;
-use member_rows::rows_of;
 use obeying::body_met;
 use pairs::WRONG;
 use pairs::left_over;
@@ -66,15 +65,15 @@ pub fn match_planned(template: &[u8], plan: Plan, list: &[i32], room: &mut [u8])
     if !length_met(plan.low, plan.high, n) {
         return NO_MATCH;
     }
-    let members = plan.members;
-    let rows = rows_of(template, &plan.places, members, list);
+    let places = plan.places;
     let f = first_witness(
+        template,
+        &places,
+        plan.members,
         plan.kind,
         &plan.blocks,
         plan.count,
-        members,
-        &rows,
-        list.len() as u8,
+        list,
     );
     if !f.found {
         return NO_MATCH;

@@ -1,5 +1,5 @@
--- What the proofs of several functions use.
+-- What the proofs of several functions use, and what other crates cite.
 -- Bodies == what each kind of body asks, by the members that are left over and the blocks
 -- Unique == the promise allows one result only
-mod Bodies
+pub mod Bodies
 pub mod Unique

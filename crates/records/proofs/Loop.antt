@@ -20,7 +20,7 @@ use Rattle.blocks.proofs.LentBlocks.{lent, cuts-lent}
 use Rattle.grammar.specs.Element.{Elem}
 use Rattle.grammar.specs.Leaf.{Leaf}
 use Rattle.places.specs.Ways.{Ways, Way, Back, Low, isOne, Agrees}
-use Rattle.places.proofs.Backward.{ways-low, lent-end, lent-back}
+use Rattle.places.proofs.LentPlaces.{lent-end, lent-back, lent-never, none-best}
 use Rattle.plain.specs.Plain.{Plain}
 use Rattle.fronts.specs.Given.{Told, Prepares}
 use Rattle.records.specs.Records.{pairOf, Below, Sound, Before}
@@ -102,11 +102,5 @@ module _ (es : List (Elem Leaf)) (xs : List ℤ) (count : ℕ) (vs : List ℕ) w
     pub prepares : bit good 0 ≡ true → Prepares (pairOf es xs) rows count vs ends (length xs)
     prepares h = record { told = told; ways = λ j l. g .after j (omega arith) l; start = g .ways .some 0 h }
 
-    pub no-cut : bit good 0 ≡ false → (w : List ℕ) → length w ≡ 32 → w ≡ replicate 32 255 → ((i : ℕ) → length xs ≤ i → i < 32 → getD w i 0 ≡ 255) → Cutting (pairOf es xs) (blocksIn (take count vs)) (length xs) false w
-    no-cut h w size blank out = record {
-      best = λ f. absurd (clash f refl);
-      none = λ f v c. clash (g .ways .all 0 (record { list = v; cut = cuts-lent (pairOf es xs) count vs 0 (length xs) v c })) h;
-      size = size;
-      outside = out;
-      blank = λ f. blank;
-    }
+    pub no-cut : bit good 0 ≡ false → (w : List ℕ) → w ≡ replicate 32 255 → Cutting (pairOf es xs) (blocksIn (take count vs)) (length xs) false w
+    no-cut h w blank = none-best blank (lent-never count vs (g .ways) h)

@@ -20,6 +20,7 @@ use Rattle.plain.specs.Plain.{Plain, upFrom}
 use Rattle.plain.proofs.UpFrom.{up-take}
 use Rattle.places.specs.Ways.{isOne}
 use Rattle.places.proofs.Backward.{one-taken, taken-one}
+use Rattle.places.proofs.LentPlaces.{none-best}
 use Rattle.records.specs.Records.{pairOf}
 
 module _ (may : ℕ → ℕ → Bool) (count : ℕ) (vs : List ℕ) (plain : Plain count vs) (few : count ≤ 32) where
@@ -99,14 +100,11 @@ module _ (es : List (Elem Leaf)) (xs : List ℤ) (count : ℕ) (vs : List ℕ) (
   only : (v : List ℕ) → Cuts (pairOf es xs) (blocksIn (take count vs)) 0 (length xs) v → (length xs ≡ count) × (v ≡ upFrom 0 count) × ((i : ℕ) → 0 ≤ i → i < count → pairOf es xs i i ≡ true)
   only v c = plain-cuts (pairOf es xs) count vs plain few count 0 (length xs) v (omega arith) (cuts-lent (pairOf es xs) count vs 0 (length xs) v c)
 
-  none-found : (w : List ℕ) → w ≡ replicate 32 255 → ((v : List ℕ) → Cuts (pairOf es xs) (blocksIn (take count vs)) 0 (length xs) v → ⊥) → Cutting (pairOf es xs) (blocksIn (take count vs)) (length xs) false w
-  none-found w q none = rw q (record { best = λ f. absurd (clash f refl); none = λ f. none; size = refl; outside = λ i l u. getD-replicate 32 i 255 0 u; blank = λ f. refl })
-
   pub other-length : (w : List ℕ) → w ≡ replicate 32 255 → (length xs ≡ count → ⊥) → Cutting (pairOf es xs) (blocksIn (take count vs)) (length xs) false w
-  other-length w q n = none-found w q (λ v c. n (only v c .0))
+  other-length w q n = none-best q (λ v c. n (only v c .0))
 
   pub one-missed : (w : List ℕ) (e : ℕ) → w ≡ replicate 32 255 → e < count → pairOf es xs e e ≡ false → Cutting (pairOf es xs) (blocksIn (take count vs)) (length xs) false w
-  one-missed w e q l h = none-found w q (λ v c. clash (only v c .2 e (omega arith) l) h)
+  one-missed w e q l h = none-best q (λ v c. clash (only v c .2 e (omega arith) l) h)
 
   pub all-tested : (w : List ℕ) → length xs ≡ count → Tested es xs count w → Cutting (pairOf es xs) (blocksIn (take count vs)) (length xs) true w
   all-tested w z g =

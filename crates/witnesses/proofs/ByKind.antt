@@ -6,7 +6,7 @@ use Prim.Native.Nat.{ℕ}
 use borrow.Author.Tests.{eq-eqb, ne-eqb}
 use Rattle.blocks.specs.declared.Block.{Block}
 use Rattle.blocks.specs.Pieces.{Cuts, Fills, Best}
-use Rattle.witnesses.specs.ByRows.{AllowsBy, Allows}
+use Rattle.witnesses.specs.ByKind.{AllowsBy, Allows}
 
 module _ (kind : ℕ) (bs : List Block) (k : ℕ) (may : ℕ → ℕ → Bool) (n : ℕ) where
   subset-allows : (P : (List ℕ → Type 0) → Type 0) → kind ≡ 0x13 → P (Fills may k n) → P (Allows kind bs k may n)

@@ -4,14 +4,13 @@ use borrow.Author.Needs.{needs}
 use borrow.Author.Tests.{not-true, not-false}
 use lib.ListN.{length}
 use Rattle.matching.proofs.Answers.{match-two, match-eleven, match-twelve}
-use Rattle.matcher.proofs.ByPlan.{Ready, planned-ready, ready-members, ready-inside}
+use Rattle.matcher.proofs.ByPlan.{Ready, planned-ready, ready-members, ready-below, ready-alone}
 use Rattle.matcher.proofs.PlannedAnswers.{match-refused, match-unmet, match-none, match-found}
 use Rattle.matcher.proofs.match_planned.Statement.{statement}
 use Rattle.matcher.proofs.match_planned.Tie as tie
 use Rattle.matcher.proofs.match_planned.Reads as reads
 use Rattle.matcher.proofs.match_planned.Lts as lts
 use Rattle.matcher.proofs.length_met.Reads as length-met-reads
-use Rattle.member_rows.proofs.rows_of.Reads as rows-of-reads
 use Rattle.matcher.proofs.write_witness.Reads as write-witness-reads
 use Rattle.witnesses.proofs.first_witness.Reads as first-witness-reads
 
@@ -56,29 +55,22 @@ returns-5 c =
 ready : (c : tie.Else4) → let start = c .before .before .before .before .before .before in Ready (start .args .template .now) (start .args .t2) (length (start .args .list .now))
 ready c = planned-ready _ _ _ (c .before .before .before .before .before .before .pre) (c .if4 .left) (c .before .before .if2 .left)
 
-rows-of-requires : tie.Need-rows-of-requires
-rows-of-requires c κs = let r = ready (c .before .before .before .before) in (ready-members r, r .short)
-
-cast-first-witness : tie.Need-cast-first-witness
-cast-first-witness c = search needs
-
 first-witness-requires : tie.Need-first-witness-requires
 first-witness-requires c κs =
-    let r = ready (c .before .before .before .before .before .before .before .before) in
-    (r .planned .fewBlocks, r .planned .fewMembers, r .short, ready-inside r)
+    let r = ready (c .before .before .before .before .before .before) in
+    (ready-members r, r .planned .fewBlocks, r .short, ready-below r, ready-alone r)
 
 returns-6 : tie.Need-returns-6
 returns-6 c =
     let given = c .before .before in
-    let marked = given .before .before .before .before in
-    let met = marked .before .before .before in
+    let met = given .before .before .before .before .before in
     let zero = met .before .before in
     let fits = zero .before in
     let short = fits .before in
     let small = short .before in
     let start = small .before .before .before in
     let a = start .args in
-    match-none (a .template .now) (a .list .now) (small .if1 .left, short .if2 .left) (a .t2) (start .pre) (zero .if4 .left) _ (met .before .length-met .ensures) (not-false _ (met .if5 .left)) _ (marked .rows-of .ensures) _ _ (given .first-witness .ensures) (a .room .now) (fits .if3 .left) (not-true _ (c .if6 .taken))
+    match-none (a .template .now) (a .list .now) (small .if1 .left, short .if2 .left) (a .t2) (start .pre) (zero .if4 .left) _ (met .before .length-met .ensures) (not-false _ (met .if5 .left)) _ _ (given .first-witness .ensures) (a .room .now) (fits .if3 .left) (not-true _ (c .if6 .taken))
 
 write-witness-requires : tie.Need-write-witness-requires
 write-witness-requires c κs = search needs
@@ -90,15 +82,14 @@ returns-7 : tie.Need-returns-7
 returns-7 c =
     let there = c .before .before .before .before .before in
     let given = there .before .before in
-    let marked = given .before .before .before .before in
-    let met = marked .before .before .before in
+    let met = given .before .before .before .before .before in
     let zero = met .before .before in
     let fits = zero .before in
     let short = fits .before in
     let small = short .before in
     let start = small .before .before .before in
     let a = start .args in
-    match-found (a .template .now) (a .list .now) (small .if1 .left, short .if2 .left) (a .t2) (start .pre) (zero .if4 .left) _ (met .before .length-met .ensures) (not-false _ (met .if5 .left)) _ (marked .rows-of .ensures) _ _ (given .first-witness .ensures) (a .room .now) (fits .if3 .left) (not-false _ (there .if6 .left)) _ (c .before .before .write-witness .ensures)
+    match-found (a .template .now) (a .list .now) (small .if1 .left, short .if2 .left) (a .t2) (start .pre) (zero .if4 .left) _ (met .before .length-met .ensures) (not-false _ (met .if5 .left)) _ _ (given .first-witness .ensures) (a .room .now) (fits .if3 .left) (not-false _ (there .if6 .left)) _ (c .before .before .write-witness .ensures)
 
 pub match-planned-spec : {M : Type 1} → statement M
 match-planned-spec =
@@ -110,8 +101,6 @@ match-planned-spec =
     returns-4
     length-met-requires
     returns-5
-    rows-of-requires
-    cast-first-witness
     first-witness-requires
     returns-6
     write-witness-requires

@@ -4,7 +4,7 @@ use Rattle.records.specs.Records.{pairOf}
 use mathlib.Core.Path.{_≡_, refl, sym, ap, _∙_, subst}
 use mathlib.Core.List.{List}
 use Prim.Native.Nat.{ℕ, _-_, _≤_, _<_}
-use lib.ListN.{length, take, length-set, getD-replicate}
+use lib.ListN.{length, take, length-set}
 use borrow.Author.Tests.{not-true, not-false}
 use borrow.Author.Needs.{needs}
 use Rattle.grammar.specs.Element.{Elem}
@@ -94,7 +94,7 @@ all-gone c es s =
 returns-2 : tie.Need-returns-2 Inv-loop μ-loop
 returns-2 c =
     let gone = c .before .before in
-    λ es s. no-cut es _ _ _ _ _ _ (all-gone gone es s) (sym (c .before .has-place .ensures) ∙ not-true _ (c .if2 .taken)) _ refl refl (λ i l u. getD-replicate 32 i 255 0 u)
+    λ es s. no-cut es _ _ _ _ _ _ (all-gone gone es s) (sym (c .before .has-place .ensures) ∙ not-true _ (c .if2 .taken)) _ refl
 
 cast-first-cut-from : tie.Need-cast-first-cut-from Inv-loop μ-loop
 cast-first-cut-from c = omega (arith, c .before .before .before .before .before .before .before .before .before .before .before .pre .2)
