@@ -2,7 +2,7 @@
 -- the members were read, those still to come are the rest of them, and the mask has the asked elements that none of the others matches.
 -- Assumes nothing.
 use mathlib.Core.Path.{_≡_, refl, sym, ap, _∙_, subst}
-use mathlib.Core.Bool.{Bool, true, false, not, _||_, _&&_, cond, or-false}
+use mathlib.Core.Bool.{Bool, true, false, not, _||_, _&&_, cond, or-false, Bool·not-not}
 use mathlib.Core.Logic.{⊎-elim}
 use mathlib.Core.List.{List}
 use Prim.Native.Nat.{ℕ, _+_, _-_, _≤_, _<_}
@@ -37,10 +37,6 @@ tells-same {asked} {mask} {test} {test′} same h = record { told = λ j. h .tol
     go : (j : ℕ) (b : Bool) → bit asked j ≡ b → (bit asked j && test j) ≡ (bit asked j && test′ j)
     go j true q = ap (λ (v : Bool). bit asked j && v) (same j q)
     go j false q = rw q refl
-
-not-not : (b : Bool) → not (not b) ≡ b
-not-not true = refl
-not-not false = refl
 
 -- who is missed by those before and by one more
 both-missed : (asked before one : Bool) → ((asked && not before) && not one) ≡ (asked && not (before || one))
@@ -145,7 +141,7 @@ module _ (t : List ℕ) (p left : ℕ) (xs : List ℤ) (asked mask next : ℕ) w
     where
       grouped-misses : (c : Bool) (es : Elems Leaf) (x : ℤ) → turn (not c) (anyMatches es x) ≡ not (matches (grouped c es) x)
       grouped-misses false es x = refl
-      grouped-misses true es x = sym (not-not (anyMatches es x))
+      grouped-misses true es x = sym (Bool·not-not (anyMatches es x))
 
 -- ---- the walk
 

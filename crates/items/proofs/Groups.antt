@@ -5,9 +5,9 @@ use mathlib.Core.Logic.{⊎-elim}
 use mathlib.Core.List.{List, [], _∷_}
 use Prim.Native.Nat.{ℕ, zero, suc, _+_, _-_, _≤_, _<_}
 use native.Mathlib.Omega.{arith}
-use borrow.Author.Tests.{lt-ltb, eq-eqb, ne-eqb}
+use borrow.Author.Tests.{lt-ltb, eqb-true, eq-eqb, ne-eqb}
 use lib.Dec.{ltb, eqb}
-use lib.ListN.{length, getD, drop, set}
+use lib.ListN.{length, getD, drop, take, set}
 use Rattle.grammar.specs.Element.{Elem}
 use Rattle.grammar.specs.Template.{Star, noStar, star, Group, grouped, membersOfGroup}
 use Rattle.grammar.specs.Record.{Head, fault, leafHere, group, kindOf, head}
@@ -21,8 +21,8 @@ use Rattle.elements.specs.Contract.{faultIn, Noted, stopped, noted, Ended}
 use Rattle.elements.proofs.Scans.{noted-stopped, noted-read}
 use Rattle.items.specs.Notes.{Placed, MemberNotes, StarNotes, starOf, groupBlock, Says, GroupNotes}
 use Rattle.items.proofs.ItemRecords.{member-low}
-use Rattle.items.proofs.MemberPlaces.{noted-as, stopped-on, placed-none, placed-one, placed-then}
-use Rattle.facts.proofs.Cases.{below}
+use Rattle.items.proofs.MemberPlaces.{noted-as, noted-told, stopped-on, placed-none, placed-one, placed-then, placed-from}
+use Rattle.facts.proofs.Cases.{below, by-test, and-right}
 use Rattle.grammar.proofs.ReadApart.{clash}
 use Rattle.grammar.proofs.MemberLimit.{members-limit}
 
@@ -49,6 +49,22 @@ member-few m s e rest q = ⊎-elim (λ (h : 31 < m). absurd (go (head leafHead s
     go (fault r) l p = clash p
     go (leafHere v s′) l p = over _ l p
     go (group c n s′) l p = over _ l p
+
+-- a 20 is no member
+pub star-no-member : (m : ℕ) (s : List ℕ) (e : Elem Leaf) (rest : List ℕ) → kindOf s ≡ 0x20 → member leafHead m s ≡ got e rest → ⊥
+unfolding member numbered head leafHead
+star-no-member m s e rest k q = by-test (eqb (length s) 0) (λ z. clash (sym (refused 3 (rw z)) ∙ q)) (λ z. clash (sym (refused 4 (rw (z, k))) ∙ q))
+  where
+    refused : (r : ℕ) → head leafHead s ≡ fault r → member leafHead m s ≡ refuse r
+    refused r z = rw z
+
+-- what was read as a member is no 20
+pub member-item : (t : List ℕ) (stars : Bool) (p m r : ℕ) {Tells : Elem Leaf → Type 0} → Noted Tells t (member leafHead m (drop p t)) (faultIn r) r → r ≤ 16777215 → (stars && eqb (kindOf (drop p t)) 0x20) ≡ false
+member-item t stars p m r s l =
+    let w = noted-read _ _ _ _ _ s (omega arith) in
+    by-test (stars && eqb (kindOf (drop p t)) 0x20)
+    (λ h. absurd (star-no-member m (drop p t) (w .0) _ (eqb-true _ _ (and-right stars _ h)) (w .1)))
+    (λ h. h)
 
 -- ---- the 20 so far
 
@@ -78,7 +94,7 @@ pub record Gathered (t : List ℕ) (m : ℕ) (before : List ℕ) (count at : ℕ
 
 -- one item more: a 20, where one is allowed, or a member
 pub data Stepped (t : List ℕ) (stars : Bool) (p count at : ℕ) (before : List ℕ) (r count′ at′ : ℕ) (after : List ℕ) : Type 0 where
-  stepStar : (stars && eqb (kindOf (drop p t)) 0x20) ≡ true → Noted (StarNotes t p r) t (starHere (not (eqb at 0)) (drop p t)) (faultIn r) r → count′ ≡ count → at′ ≡ p + 1 → after ≡ before
+  stepStar : (stars && eqb (kindOf (drop p t)) 0x20) ≡ true → Noted (StarNotes t p r) t (starHere (not (eqb at 0)) (drop p t)) (faultIn r) r → count′ ≡ count → at′ ≡ p + 1 → take count after ≡ take count before
       → Stepped t stars p count at before r count′ at′ after
   stepMember : (stars && eqb (kindOf (drop p t)) 0x20) ≡ false → Noted (MemberNotes t count before after) t (member leafHead count (drop p t)) (faultIn r) r → count′ ≡ count + 1 → at′ ≡ at
       → Stepped t stars p count at before r count′ at′ after
@@ -154,7 +170,7 @@ module _ (t : List ℕ) (stars : Bool) where
               goes = λ r₁ count₁ at₁ after₁ k.
                   goes r₁ count₁ at₁ after₁
                   (noted-as (opens true j count (g .st) _ (drop p t) e (star-seen t at (g .st) (g .starred)) ∙ ap (λ (o : Read Star). thenStar o (members leafHead stars j count)) (w .1))
-                  (rw (c, v, down) at k));
+                  (noted-told (λ x q h₁. record { placed = placed-from v (h₁ .placed); starred = h₁ .starred }) (rw (c, down) at k)));
             }
         on (suc j) l (stepMember e q c h) goes =
             let w = noted-read _ _ _ _ _ q (omega arith) in

@@ -1,7 +1,7 @@
 -- What a scan notes, in general, and the places of the members one after another. Assumes nothing.
 -- noted-as == the same of an equal reading; stopped-as, stopped-on == a refusal, as an answer says it, whatever is to be said of it
 -- map-noted == the same scan, of what was read in another form; noted-told == the same told in another way
--- placed-none, placed-one, placed-then == no member, one member, more members after others
+-- placed-none, placed-one, placed-then == no member, one member, more members after others; placed-from == after others that stand there as well
 use mathlib.Core.Path.{_≡_, refl, sym, ap, _∙_, subst}
 use mathlib.Core.List.{List, [], _∷_, _++_, append-assoc, append-nil}
 use Prim.Native.Nat.{ℕ, suc, _+_, _≤_, _<_}
@@ -71,3 +71,7 @@ placed-then {t = t} {es = es} {fs = fs} {n = n} {after = after} x y = record {
   counts = omega (arith, length-append es fs, x .counts, y .counts);
   stands = λ es₀ s. subst (λ (v : List (Elem Leaf)). Standing t v (take n after)) (append-assoc es₀ es fs) (y .stands (es₀ ++ es) (x .stands es₀ s));
 }
+
+-- what is placed after m members goes by their places only
+pub placed-from : {t : List ℕ} {m : ℕ} {before before′ : List ℕ} {es : List (Elem Leaf)} {k : ℕ} {after : List ℕ} → take m before ≡ take m before′ → Placed t m before es k after → Placed t m before′ es k after
+placed-from {t = t} e x = record { counts = x .counts; stands = λ es₀ s. x .stands es₀ (subst (λ (v : List ℕ). Standing t es₀ v) (sym e) s) }

@@ -1,7 +1,7 @@
 // The items of a set of, permutation, superset or subset, with the places of their members and their block.
 ghost use mathlib.Core.Path.{_≡_};
 ghost use Prim.Native.Nat.{_+_, _≤_};
-ghost use lib.ListN.{length, drop};
+ghost use lib.ListN.{length, drop, take};
 ghost use Rattle.grammar.specs.Leaf.{leafHead};
 ghost use Rattle.grammar.specs.Template.{noStar};
 ghost use Rattle.grammar.specs.Whole.{starHere, member, members};
@@ -36,10 +36,11 @@ pub fn star_end(t: &[u8], at: usize, seen: bool) -> usize
     at + BOUNDS_SIZE
 }
 
-// The place after the element template that stands as an item at `at`, with m members before it, or its refusal. Its place is noted.
+// The place after the element template that stands as an item at `at`, with m members before it, or its refusal. Its place is noted; those of the
+// members before it stay.
 pub fn member_end(t: &[u8], at: usize, m: usize, places: &mut [u16; 32]) -> usize
     requires { ⌜ Place (now t) at × (length (now places) ≡ 32) ⌝ }
-    ensures { λ r. ⌜ Noted (MemberNotes (now (t .entry)) m (now (places .entry)) (now (places .exit))) (now (t .entry)) (member leafHead m (drop at (now (t .entry)))) (faultIn r) r × (length (now (places .exit)) ≡ 32) ⌝ }
+    ensures { λ r. ⌜ Noted (MemberNotes (now (t .entry)) m (now (places .entry)) (now (places .exit))) (now (t .entry)) (member leafHead m (drop at (now (t .entry)))) (faultIn r) r × (length (now (places .exit)) ≡ 32) × (take m (now (places .exit)) ≡ take m (now (places .entry))) ⌝ }
 {
     let end = head_end(t, at);
     if FAULT < end {
@@ -76,7 +77,8 @@ fn group_block(t: &[u8], m: usize, count: usize, star: usize) -> u32
     })
 }
 
-// The place after n such items at `at`, with m members before them, or a refusal; a 20 is allowed where `stars` says so. They are one block.
+// The place after n such items at `at`, with m members before them, or a refusal; a 20 is allowed where `stars` says so. They are one block. Most items are
+// members, so what is no member is asked about after it was refused as one.
 pub fn group_end(
     t: &[u8],
     at: usize,
@@ -95,15 +97,18 @@ pub fn group_end(
     let mut more = n;
     while 0 < more {
         let here = p;
-        if stars & (kind_at(t, here) == STARS) {
+        p = member_end(t, here, count, places);
+        if FAULT < p {
+            if !(stars & (kind_at(t, here) == STARS)) {
+                return p;
+            }
             p = star_end(t, here, star != 0);
+            if FAULT < p {
+                return p;
+            }
             star = here + 1;
         } else {
-            p = member_end(t, here, count, places);
             count += 1;
-        }
-        if FAULT < p {
-            return p;
         }
         more -= 1;
     }

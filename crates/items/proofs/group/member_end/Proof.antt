@@ -1,8 +1,9 @@
 -- `items::group::member_end` meets its contract: a 33rd member is found at its first record, after that record's own faults; of any other
 -- the place is noted. Assumes nothing.
-use mathlib.Core.Path.{_∙_}
+use mathlib.Core.Path.{refl, _∙_}
 use native.Mathlib.Omega.{arith}
 use lib.ListN.{length-set}
+use lib.Seq.{take-set-le}
 use Rattle.grammar.specs.Leaf.{leafHead}
 use Rattle.elements.specs.Contract.{stopped}
 use Rattle.items.proofs.ItemRecords.{member-fault, member-over}
@@ -25,7 +26,7 @@ returns c =
     let start = c .before .before .before in
     let a = start .args in
     let v = member-fault leafHead (a .t .now) (a .at) (a .m) _ (start .pre .0 .1) (c .before .head-end .ensures) (c .if1 .taken) in
-    (stopped (v .0) (omega (arith, c .if1 .taken)) (v .1), start .pre .1)
+    (stopped (v .0) (omega (arith, c .if1 .taken)) (v .1), start .pre .1, refl)
 
 refusal-requires : tie.Need-refusal-requires
 refusal-requires c κs = search needs
@@ -35,7 +36,7 @@ returns-2 c =
     let start = c .before .before .before .before .before in
     let a = start .args in
     let read = c .before .before .before in
-    (stopped-as 8 (member-over leafHead (a .t .now) (a .at) (a .m) _ (start .pre .0 .1) (read .head-end .ensures) (c .before .before .if1 .left) (c .before .if2 .taken)) (omega arith) (omega arith) (omega (arith, c .refusal .ensures)), start .pre .1)
+    (stopped-as 8 (member-over leafHead (a .t .now) (a .at) (a .m) _ (start .pre .0 .1) (read .head-end .ensures) (c .before .before .if1 .left) (c .before .if2 .taken)) (omega arith) (omega arith) (omega (arith, c .refusal .ensures)), start .pre .1, refl)
 
 rest-end-requires : tie.Need-rest-end-requires
 rest-end-requires c κs = search needs
@@ -54,7 +55,7 @@ returns-3 c =
     let start = c .before .before .before .before .before in
     let a = start .args in
     let w = start .pre in
-    (member-noted (a .t .now) (a .at) (a .m) _ (a .places .now) (w .0 .0) (c .before .if2 .left) (w .1) (c .rest-end .ensures), length-set (a .places .now) (a .m) (a .at) ∙ w .1)
+    (member-noted (a .t .now) (a .at) (a .m) _ (a .places .now) (w .0 .0) (c .before .if2 .left) (w .1) (c .rest-end .ensures), length-set (a .places .now) (a .m) (a .at) ∙ w .1, take-set-le (a .m) (a .places .now) (a .m) (a .at) (omega arith))
 
 pub member-end-spec : {M : Type 1} → statement M
 member-end-spec =
