@@ -17,14 +17,15 @@ use Rattle.masks.specs.Masks.{bit, Plus}
 use Rattle.masks.proofs.Masks.{bit-none, bits-same}
 use Rattle.integers.specs.Integer.{Word}
 use Rattle.integers.proofs.SignedLocals.{again, again-same}
-use Rattle.grammar.specs.Element.{Elem, Elems}
-use Rattle.grammar.specs.Leaf.{Leaf, leafHead}
+use Rattle.grammar.specs.Element.{Elem, leaf, Elems}
+use Rattle.grammar.specs.Record.{leafHere}
+use Rattle.grammar.specs.Leaf.{Leaf, any, leafHead}
 use Rattle.grammar.specs.Read.{got}
 use Rattle.grammar.specs.Reading.{counted, many, elem}
-use Rattle.grammar.specs.Matches.{matchesBy, matches, anyMatches}
+use Rattle.grammar.specs.Matches.{matchesBy, leafMatches, matches, anyMatches}
 use Rattle.grammar.proofs.ReadApart.{grouped, many-inv, many-none}
 use Rattle.elements.specs.Leaves.{LeafHere, BoundsHere}
-use Rattle.elements.proofs.LeafByKind.{bounds-test}
+use Rattle.elements.proofs.LeafByKind.{any-is, bounds-test}
 use Rattle.elements.proofs.ElementByKind as by-kind
 use Rattle.element_match.specs.Contract.{ElementAt, Among, Tells, Missed, HitsAt, OneHit, Members, turn, WalkTells}
 
@@ -251,23 +252,34 @@ group-matched t at xs asked mask next c e h = record {
     grouped-matches false es x = refl
     grouped-matches true es x = refl
 
+-- any value
+pub any-matched : (t : List ℕ) (at : ℕ) (xs : List ℤ) (asked : ℕ) → getD t at 0 ≡ 3 → HitsAt t at xs asked asked
+unfolding matchesBy leafMatches
+any-matched t at xs asked q = record {
+  right = λ e k rest r.
+      let a = by-kind.by-leaf t at 8 0 e k rest r (omega arith) in
+      let z = any-is t at (by-kind.leaf-there t at 8 0 e k rest r (omega arith)) (λ y. omega arith) (λ y. omega arith) in
+      let same : a .l ≡ any = leaf-same (sym (a .reads) ∙ z .reads) in
+      record { told = λ j. and-true (bit asked j) ∙ ap (λ (v : Bool). bit asked j && v) (sym (ap (λ o. matches o (getD xs j (pos 0))) (a .is ∙ ap leaf same))) };
+}
+  where
+    leaf-same : {l l′ : Leaf} {s s′ : List ℕ} → leafHere l s ≡ leafHere l′ s′ → l ≡ l′
+    leaf-same p = cc
+
 -- ---- one element
 
-module _ (t : List ℕ) (at : ℕ) (xs : List ℤ) (j : ℕ) where
-  -- a leaf
-  pub leaf-one : (lower upper : ℤ) (next : ℕ) (hit : Bool) → Word (getD xs j (pos 0)) → getD t at 0 < 4 → BoundsHere t at lower upper next
-      → hit ≡ (leZ lower (getD xs j (pos 0)) && leZ (getD xs j (pos 0)) upper) → OneHit t at xs j hit
-  leaf-one lower upper next hit word low h told = record {
-    right = λ e k rest q. told ∙ sym (by-kind.bounds-match t at 8 0 e k rest q lower upper next low h (getD xs j (pos 0)) word);
-  }
+-- a leaf
+pub leaf-one : (t : List ℕ) (at : ℕ) (x lower upper : ℤ) (next : ℕ) (hit : Bool) → Word x → getD t at 0 < 4 → BoundsHere t at lower upper next → hit ≡ (leZ lower x && leZ x upper) → OneHit t at x hit
+leaf-one t at x lower upper next hit word low h told = record { right = λ e k rest q. told ∙ sym (by-kind.bounds-match t at 8 0 e k rest q lower upper next low h x word) }
 
+module _ (t : List ℕ) (at : ℕ) (xs : List ℤ) (j : ℕ) where
   -- of this one only
-  pub only-one : (asked mask : ℕ) → Plus (bit 0) j (bit asked) → HitsAt t at xs asked mask → OneHit t at xs j (not (eqb mask 0))
+  pub only-one : (asked mask : ℕ) → Plus (bit 0) j (bit asked) → HitsAt t at xs asked mask → OneHit t at (getD xs j (pos 0)) (not (eqb mask 0))
   only-one asked mask p h = record {
     right = λ e k rest q.
         let told = h .right e k rest q in
         some-or-none mask j (matches e (getD xs j (pos 0))) (told .told j ∙ rw (p .self) refl)
-            (λ v z. told .told v ∙ rw (p .other v z, bit-none v) refl);
+        (λ v z. told .told v ∙ rw (p .other v z, bit-none v) refl);
   }
 
 pub asked-one : (xs : List ℤ) (j asked : ℕ) → j < length xs → Plus (bit 0) j (bit asked) → Among asked xs

@@ -5,7 +5,7 @@
 -- Tells asked test mask <-> of the asked ones the mask has those for which the test holds
 -- Missed xs asked lower upper mask <-> of the asked elements the mask has those that lie outside the bounds; each is a 32-bit integer
 -- HitsAt t at xs asked mask <-> of the asked elements the mask has those that the element template at `at` matches
--- OneHit t at xs j hit <-> `hit` says whether it matches the element j
+-- OneHit t at x hit <-> `hit` says whether it matches x
 -- Members t at n left <-> n element templates with so many depths left stand at `at`
 -- turn turned b == b, or its opposite where `turned` holds
 -- WalkTells turned t at n left xs asked mask next <-> of the asked elements the mask has those that at least one of them matches (turned false), or
@@ -44,8 +44,8 @@ pub record Missed (xs : List ℤ) (asked : ℕ) (lower upper : ℤ) (mask : ℕ)
 pub record HitsAt (t : List ℕ) (at : ℕ) (xs : List ℤ) (asked mask : ℕ) : Type 0 where
   pub right : (e : Elem Leaf) (k : ℕ) (rest : List ℕ) → outermost leafHead (drop at t) ≡ got (counted e k) rest → Tells asked (λ j. matches e (getD xs j (pos 0))) mask
 
-pub record OneHit (t : List ℕ) (at : ℕ) (xs : List ℤ) (j : ℕ) (hit : Bool) : Type 0 where
-  pub right : (e : Elem Leaf) (k : ℕ) (rest : List ℕ) → outermost leafHead (drop at t) ≡ got (counted e k) rest → hit ≡ matches e (getD xs j (pos 0))
+pub record OneHit (t : List ℕ) (at : ℕ) (x : ℤ) (hit : Bool) : Type 0 where
+  pub right : (e : Elem Leaf) (k : ℕ) (rest : List ℕ) → outermost leafHead (drop at t) ≡ got (counted e k) rest → hit ≡ matches e x
 
 pub record Members (t : List ℕ) (at n left : ℕ) : Type 0 where
   pub inside : at ≤ length t

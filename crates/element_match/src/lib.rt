@@ -2,9 +2,11 @@
 ghost use mathlib.Core.Path.{_≡_};
 ghost use mathlib.Core.Bool.{Bool, true, false, not};
 ghost use Prim.Native.Nat.{ℕ, _<_, _≤_};
-ghost use lib.ListN.{length};
+ghost use lib.IntN.{pos};
+ghost use lib.ListN.{length, getD};
 ghost use Rattle.element_match.specs.Contract.{ElementAt, Among, Tells, Missed, HitsAt, OneHit, Members, WalkTells, maskIn, placeIn};
 use elements::leaf::bounds_at;
+use format::ANY;
 use format::COUNT_SIZE;
 use format::DEPTH_MOST;
 use format::LIST;
@@ -102,6 +104,9 @@ pub fn hits(t: &[u8], at: usize, list: &[i32], asked: u32) -> u32
     ensures { λ r. ⌜ HitsAt (now (t .entry)) at (now (list .entry)) asked r ⌝ }
 {
     let kind = t[at];
+    if kind == ANY {
+        return asked;
+    }
     if kind < LIST {
         let b = bounds_at(t, at);
         return others(asked, missed(list, asked, b.lower, b.upper));
@@ -126,14 +131,19 @@ pub fn hits(t: &[u8], at: usize, list: &[i32], asked: u32) -> u32
     ))
 }
 
-// Whether the element template at `at` matches the element e. A leaf needs no mask.
+// Whether the element template at `at` matches the element e.
 pub fn hit(t: &[u8], at: usize, list: &[i32], e: usize) -> bool
     requires { ⌜ ElementAt (now t) at × (length (now t) < 65536) × (e < length (now list)) × (e < 32) ⌝ }
-    ensures { λ r. ⌜ OneHit (now (t .entry)) at (now (list .entry)) e r ⌝ }
+    ensures { λ r. ⌜ OneHit (now (t .entry)) at (getD (now (list .entry)) e (pos 0)) r ⌝ }
 {
-    if t[at] < LIST {
-        let b = bounds_at(t, at);
-        return within(list[e], b.lower, b.upper);
-    }
     hits(t, at, list, with(0, e as u8)) != 0
+}
+
+// Whether the leaf at `at` matches x. It lends no list: whoever tests one element after another asks here first, where there is a leaf.
+pub fn leaf_hit(t: &[u8], at: usize, x: i32) -> bool
+    requires { ⌜ ElementAt (now t) at × (getD (now t) at 0 < 4) ⌝ }
+    ensures { λ r. ⌜ OneHit (now (t .entry)) at x r ⌝ }
+{
+    let b = bounds_at(t, at);
+    within(x, b.lower, b.upper)
 }

@@ -144,9 +144,9 @@ module _ (w : List ℕ) (reach spares : ℕ) (short : length w ≤ 32) (sp : Spa
         let a = s .near in
         let f = s .far in
         let e : p ≤ length w = ⊎-elim
-            (λ (z : p ≡ s .start). rw z (low (s .start) (s .reached)))
-            (λ (z : p ≡ s .start → ⊥). let x = spare-inside (p - 1) (s .blank (p - 1) (omega arith) (omega arith)) in omega arith)
-            (same? p (s .start)) in
+        (λ (z : p ≡ s .start). rw z (low (s .start) (s .reached)))
+        (λ (z : p ≡ s .start → ⊥). let x = spare-inside (p - 1) (s .blank (p - 1) (omega arith) (omega arith)) in omega arith)
+        (same? p (s .start)) in
         record { start = s .start; reached = s .reached; inside = omega arith; end = e; taken = taken-blank (s .start) p (omega arith) e (omega arith) (omega arith) (s .blank) };
   }
     where

@@ -13,6 +13,7 @@ use mir.Syntax.{w32}
 use mir.Val.{toZ, ofZ, SFits}
 use mir.Facts.{toZ-ofZ}
 use Rattle.integers.specs.Integer.{Word}
+use Rattle.integers.proofs.SignedLocals.{again, again-same}
 use Rattle.facts.specs.Counting.{between}
 use Rattle.facts.proofs.Cases.{below, same?, clash, not-so}
 use Rattle.facts.proofs.Spans.{between-in, between-from, between-to, between-past}
@@ -22,7 +23,7 @@ use Rattle.grammar.specs.Blocks.{StandsAt, Standing}
 use Rattle.grammar.specs.Matches.{matches}
 use Rattle.element_match.specs.Contract.{ElementAt, Among, HitsAt, OneHit}
 use Rattle.elements.specs.Leaves.{BoundsHere}
-use Rattle.elements.proofs.ElementByKind.{bounds-match}
+use Rattle.elements.proofs.ElementByKind.{here-fits, bounds-match}
 use Rattle.masks.specs.Masks.{bit, Plus, Flipped}
 use Rattle.masks.proofs.Masks.{bit-none}
 use Rattle.masks.proofs.OneByOne.{flipped-down}
@@ -238,6 +239,9 @@ module _ (t places : List ℕ) (members : ℕ) (w : MembersAt t places members) 
       let s = r .stands in
       record { inside = s .inside; what = r .who; leaves = s .leaves; rest = s .rest; reads = s .reads }
 
+  pub member-inside : (m : ℕ) → m < members → getD places m 0 < length t
+  member-inside m l = let e = element-there m l in omega (arith, here-fits t (getD places m 0) 8 0 (e .what) (e .leaves) (e .rest) (e .reads))
+
   -- the members first .. k - 1 are marked
   pub record MarkedTo (before : List ℕ) (first : ℕ) (xs : List ℤ) (k : ℕ) (rows : List ℕ) : Type 0 where
     pub size : length rows ≡ 32
@@ -260,21 +264,26 @@ module _ (t places : List ℕ) (members : ℕ) (w : MembersAt t places members) 
               let who = member-at es k s l in
               let g = h .marked (who .who) (who .stands) in
               ⊎-elim
-                  (λ (z : m ≡ k). rw z (g .self e low ∙ ap (λ (b : Bool). b || matches (who .who) (getD xs e (pos 0))) (r .other k e (between-past first k k (omega arith))) ∙ ap (λ (b : Bool). may before k e || b) (sym (who .hits (getD xs e (pos 0))))))
-                  (λ (z : m ≡ k → ⊥). g .other m e z ∙ r .self es s m e i (omega arith) low)
-                  (same? m k);
+              (λ (z : m ≡ k). rw z (g .self e low ∙ ap (λ (b : Bool). b || matches (who .who) (getD xs e (pos 0))) (r .other k e (between-past first k k (omega arith))) ∙ ap (λ (b : Bool). may before k e || b) (sym (who .hits (getD xs e (pos 0))))))
+              (λ (z : m ≡ k → ⊥). g .other m e z ∙ r .self es s m e i (omega arith) low)
+              (same? m k);
         }
 
     pub marked-all : k ≡ members → MembersMarked before t places first members xs rows
     marked-all z = record { size = r .size; other = λ v e q. r .other v e (rw z q); self = λ es s m e i j. r .self es s m e i (omega arith) }
 
 -- whether the element template at a member's place matches says whether the member does
-pub told-hit : (t places : List ℕ) (members : ℕ) (w : MembersAt t places members) (es : List (Elem Leaf)) (s : Standing t es (take members places)) (xs : List ℤ) (m e : ℕ) (hit : Bool) → m < members
-    → OneHit t (getD places m 0) xs e hit → memberHits matches es m (getD xs e (pos 0)) ≡ hit
-told-hit t places members w es s xs m e hit l h =
+pub told-hit : (t places : List ℕ) (members : ℕ) (w : MembersAt t places members) (es : List (Elem Leaf)) (s : Standing t es (take members places)) (x : ℤ) (m : ℕ) (hit : Bool) → m < members
+    → OneHit t (getD places m 0) x hit → memberHits matches es m x ≡ hit
+told-hit t places members w es s x m hit l h =
     let who = member-at t places members w es m s l in
     let st = who .stands in
-    who .hits (getD xs e (pos 0)) ∙ sym (h .right (who .who) (st .leaves) (st .rest) (st .reads))
+    who .hits x ∙ sym (h .right (who .who) (st .leaves) (st .rest) (st .reads))
+
+-- the same of a leaf, which got the integer as the machine reads it back from its bits
+pub told-leaf-hit : (t places : List ℕ) (members : ℕ) (w : MembersAt t places members) (es : List (Elem Leaf)) (s : Standing t es (take members places)) (x : ℤ) (m : ℕ) (hit : Bool) → m < members
+    → Word x → OneHit t (getD places m 0) (again x) hit → memberHits matches es m x ≡ hit
+told-leaf-hit t places members w es s x m hit l word h = told-hit t places members w es s x m hit l (rw (again-same x word) at h)
 
 -- marked from nothing, and nothing after the list: the rows
 pub rows-end : (t places : List ℕ) (members : ℕ) (w : MembersAt t places members) (xs : List ℤ) (rows after : List ℕ) → MembersMarked (replicate 32 0) t places 0 members xs rows → Cleared (length xs) rows after

@@ -111,18 +111,18 @@ module _ (w : List ℕ) (left : ℕ) (short : length w ≤ 32) (one : Block) (r 
   one-kind kind bs (setOf (grouped es st)) says s n13 n10 at =
       told-as (length es) (minOf st) (maxOf st) (at _ (says .cut))
       ∙ same-test _ _
-        (λ h. group-test 0 (grouped es st) w (let f = s .few in omega arith) (tested-piece (setOf (grouped es st)) w left s (minOf st) (maxOf st) h))
-        (λ h. piece-tested (setOf (grouped es st)) w left s (minOf st) (maxOf st) (group-says 0 (grouped es st) w (let f = s .few in omega arith) h))
+      (λ h. group-test 0 (grouped es st) w (let f = s .few in omega arith) (tested-piece (setOf (grouped es st)) w left s (minOf st) (maxOf st) h))
+      (λ h. piece-tested (setOf (grouped es st)) w left s (minOf st) (maxOf st) (group-says 0 (grouped es st) w (let f = s .few in omega arith) h))
   one-kind kind bs (superset es) says s n13 n10 at =
       told-as (length es) 0 255 (at _ (says .cut))
       ∙ same-test _ _
-        (λ h. once-test 0 (length es) w (tested-piece (superset es) w left s 0 255 h .once))
-        (λ h.
-        let o = test-once 0 (length es) w h in
-        let f = s .few in
-        let i = within (superset es) w left s in
-        let z = length-once 0 (length es) w (omega arith) i o in
-        piece-tested (superset es) w left s 0 255 (record { within = i; once = o; enough = omega arith; few = omega arith }))
+      (λ h. once-test 0 (length es) w (tested-piece (superset es) w left s 0 255 h .once))
+      (λ h.
+      let o = test-once 0 (length es) w h in
+      let f = s .few in
+      let i = within (superset es) w left s in
+      let z = length-once 0 (length es) w (omega arith) i o in
+      piece-tested (superset es) w left s 0 255 (record { within = i; once = o; enough = omega arith; few = omega arith }))
 
 -- ---- a record of: its blocks; a subset: no spare element
 

@@ -9,6 +9,8 @@ ghost use Rattle.grammar.specs.Blocks.{Standing};
 ghost use Rattle.member_rows.specs.Places.{MembersAt};
 ghost use Rattle.pairs.specs.Pairs.{Paired};
 use element_match::hit;
+use element_match::leaf_hit;
+use format::LIST;
 use format::MEMBERS_MOST;
 use format::SPARE;
 use masks::flip;
@@ -43,7 +45,12 @@ pub fn left_over(t: &[u8], places: &[u16; 32], members: usize, list: &[i32], w: 
             }
             left = flip(left, x);
             let at = places[x as usize] as usize;
-            if !hit(t, at, list, e) {
+            let right = if t[at] < LIST {
+                leaf_hit(t, at, list[e])
+            } else {
+                hit(t, at, list, e)
+            };
+            if !right {
                 return WRONG;
             }
         }

@@ -103,9 +103,9 @@ module _ (t places : List ℕ) (members k : ℕ) (fewer : k ≤ members) where
       → MembersMarked before t places (b .first) k xs after → Back (may after) b good r → Before es xs b good before after r
   before-group es s xs b good r before after end low g back =
       let told : (m e : ℕ) → b .first ≤ m → m < k → e < length xs → may after m e ≡ (may before m e || pairOf es xs m e) =
-          λ m e f l i. g .self (take k es) (standing-fewer es s) m e f l i ∙ ap (λ (v : Bool). may before m e || v) (fewer-hits k es m (getD xs e (pos 0)) l) in
+      λ m e f l i. g .self (take k es) (standing-fewer es s) m e f l i ∙ ap (λ (v : Bool). may before m e || v) (fewer-hits k es m (getD xs e (pos 0)) l) in
       let full : (m e : ℕ) → between (b .first) k m ≡ true → e < length xs → pairOf es xs m e ≡ true → may after m e ≡ true =
-          λ m e i l q. told m e (between-from (b .first) k m i) (between-to (b .first) k m i) l ∙ or-right (may before m e) (pairOf es xs m e) q in
+      λ m e i l q. told m e (between-from (b .first) k m i) (between-to (b .first) k m i) l ∙ or-right (may before m e) (pairOf es xs m e) q in
       let sound : Sound es xs before → Sound es xs after = λ z. record {
         right = λ m e l q. ⊎-elim
             (λ (i : between (b .first) k m ≡ true). ⊎-elim

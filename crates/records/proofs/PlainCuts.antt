@@ -110,7 +110,7 @@ module _ (es : List (Elem Leaf)) (xs : List ℤ) (count : ℕ) (vs : List ℕ) (
   all-tested w z g =
       let up : take (length xs) w ≡ upFrom 0 count = ap (λ (x : ℕ). take x w) z ∙ up-take count w (omega (arith, g .size)) (g .bytes) in
       let cut : Cuts (pairOf es xs) (blocksIn (take count vs)) 0 (length xs) (upFrom 0 count) =
-          rw z (lent-cuts (pairOf es xs) count vs 0 count (upFrom 0 count) (cuts-plain (pairOf es xs) count vs plain few count 0 (omega arith) (λ i l u. g .pairs i u))) in
+      rw z (lent-cuts (pairOf es xs) count vs 0 count (upFrom 0 count) (cuts-plain (pairOf es xs) count vs plain few count 0 (omega arith) (λ i l u. g .pairs i u))) in
       record {
         best = λ f. rw up (record { holds = cut; least = λ v c. rw (only v c .1) (earlier-irreflexive (upFrom 0 count)) });
         none = λ f. absurd (clash refl f);

@@ -19,6 +19,8 @@ use blocks::Found;
 use blocks::block_at;
 use element_match::hit;
 use element_match::hits;
+use element_match::leaf_hit;
+use format::LIST;
 use format::SPARE;
 use fronts::first_cut_from;
 use masks::has_place;
@@ -26,10 +28,10 @@ use masks::with_place;
 use member_rows::mark_members;
 use member_rows::widened;
 use place_masks::before_spares;
-use plain::is_plain;
 use places::before_group;
 use places::before_one;
 use places::is_one;
+use plain::is_plain;
 
 // The places from which b leads to a good one. The rows get the members of a group.
 fn before_block(
@@ -74,7 +76,12 @@ fn plain_first(t: &[u8], places: &[u16; 32], members: usize, count: usize, list:
     let mut e: usize = 0;
     while e < n {
         let at = places[e] as usize;
-        if !hit(t, at, list, e) {
+        let right = if t[at] < LIST {
+            leaf_hit(t, at, list[e])
+        } else {
+            hit(t, at, list, e)
+        };
+        if !right {
             return Found {
                 found: false,
                 w: blank,

@@ -116,10 +116,10 @@ pub +any-of+none-of-spec : {M : Type 1} → statement M
     (λ c. omega (arith, c .shared-slice-known3 .given (c .before .before .before .before .before .loop .p + 1)))
     (λ c. opened _ _ _ (member t (c .before .before .before .before)) false (c .before .if2 .taken) .deep)
     (λ c κs.
-        let at-member = c .before .before .before .before in
-        let i = opened _ _ _ (member t at-member) false (c .before .if2 .taken) in
-        let s = start-of t at-member in
-        (omega (arith, s .pre .0, i .deep), (i .members, s .pre .1 .1, at-member .before .loop .inv .among)))
+    let at-member = c .before .before .before .before in
+    let i = opened _ _ _ (member t at-member) false (c .before .if2 .taken) in
+    let s = start-of t at-member in
+    (omega (arith, s .pre .0, i .deep), (i .members, s .pre .1 .1, at-member .before .loop .inv .among)))
     -- a complement: add, add-2, shared-slice-read, cast, sub, any-of-requires
     (λ c. omega (arith, opened-last _ _ _ (member t (c .before .before .before)) (c .before .if1 .left) (c .if2 .left) .fits))
     (λ c. omega (arith, opened-last _ _ _ (member t (c .before .before .before)) (c .before .if1 .left) (c .if2 .left) .fits))
@@ -127,10 +127,10 @@ pub +any-of+none-of-spec : {M : Type 1} → statement M
     (λ c. omega (arith, c .shared-slice-known4 .given (c .before .before .before .before .before .loop .p + 1)))
     (λ c. opened-last _ _ _ (member t (c .before .before .before .before)) (c .before .before .if1 .left) (c .before .if2 .left) .deep)
     (λ c κs.
-        let at-member = c .before .before .before .before in
-        let i = opened-last _ _ _ (member t at-member) (c .before .before .if1 .left) (c .before .if2 .left) in
-        let s = start-of t at-member in
-        (omega (arith, s .pre .0, i .deep), (i .members, s .pre .1 .1, at-member .before .loop .inv .among)))
+    let at-member = c .before .before .before .before in
+    let i = opened-last _ _ _ (member t at-member) (c .before .before .if1 .left) (c .before .if2 .left) in
+    let s = start-of t at-member in
+    (omega (arith, s .pre .0, i .deep), (i .members, s .pre .1 .1, at-member .before .loop .inv .among)))
     -- mask-in-requires, place-in-requires, sub-more, loop-less, loop-again, said-requires, returns
     (λ c κs. tt)
     (λ c κs. tt)

@@ -1,21 +1,25 @@
 -- `pairs::left_over` meets its contract. The loop: the pairs before e are right, and `left` has the members that do not stand before e. Assumes nothing.
 use mathlib.Core.Path.{_≡_, refl, sym, ap, _∙_, subst}
-use mathlib.Core.Bool.{true, false}
+use mathlib.Core.Bool.{Bool, true, false}
 use mathlib.Core.Logic.{⊎-elim}
 use mathlib.Core.List.{List}
 use Prim.Native.Nat.{ℕ, _+_, _-_, _≤_, _<_}
 use native.Mathlib.Omega.{arith}
 use borrow.Author.Needs.{needs}
 use borrow.Author.Tests.{not-true, not-false}
-use lib.IntN.{ℤ}
+use lib.IntN.{pos}
 use lib.ListN.{length, getD, take}
 use Rattle.facts.specs.Counting.{between}
 use Rattle.masks.specs.Masks.{bit}
 use Rattle.grammar.specs.Element.{Elem}
 use Rattle.grammar.specs.Leaf.{Leaf}
 use Rattle.grammar.specs.Blocks.{Standing}
-use Rattle.member_rows.specs.Places.{MembersAt}
-use Rattle.member_rows.proofs.RowByRow.{places-count, element-there, told-hit}
+use Rattle.integers.specs.Integer.{Word}
+use Rattle.integers.proofs.SignedLocals.{again}
+use Rattle.grammar.specs.Matches.{matches}
+use Rattle.grammar.specs.Members.{memberHits}
+use Rattle.element_match.specs.Contract.{ElementAt, OneHit}
+use Rattle.member_rows.proofs.RowByRow.{places-count, element-there, member-inside, told-hit, told-leaf-hit}
 use Rattle.pairs.specs.Pairs.{Paired, wrong}
 use Rattle.pairs.proofs.ByteByByte.{Going, going-start, going-spare, going-member, stop-high, stop-gone, stop-miss, going-end}
 use Rattle.pairs.proofs.left_over.Statement.{statement}
@@ -82,30 +86,61 @@ mul-at c = omega (arith, c .before .before .before .if2 .left)
 element-copy-out-at : tie.Need-element-copy-out-at Inv-loop μ-loop
 element-copy-out-at c = omega (arith, c .before .before .before .if2 .left)
 
--- the member of this turn
-member : (c : tie.After-at Inv-loop μ-loop) → let turn = c .before .before .before .before .before .before .before in
-    getD (start-of turn .args .w .now) (turn .before .loop .e) 0 < start-of turn .args .members
-member c = left-member (c .before .before .before .before .before .before .before) _ (sym (c .before .before .before .has .ensures) ∙ not-false _ (c .before .before .if3 .left))
+-- the turn, its member, and where it stands
+abbrev turn-of : tie.After-at Inv-loop μ-loop → tie.In-loop Inv-loop μ-loop
+turn-of c = c .before .before .before .before .before .before .before
+
+member : (c : tie.After-at Inv-loop μ-loop) → getD (start-of (turn-of c) .args .w .now) (turn-of c .before .loop .e) 0 < start-of (turn-of c) .args .members
+member c = left-member (turn-of c) _ (sym (c .before .before .before .has .ensures) ∙ not-false _ (c .before .before .if3 .left))
+
+abbrev place-of : tie.After-at Inv-loop μ-loop → ℕ
+place-of c = getD (start-of (turn-of c) .args .places .now) (getD (start-of (turn-of c) .args .w .now) (turn-of c .before .loop .e) 0) 0
+
+member-there : (c : tie.After-at Inv-loop μ-loop) → (place-of c < length (start-of (turn-of c) .args .t .now)) × ElementAt (start-of (turn-of c) .args .t .now) (place-of c)
+member-there c =
+    let w = start-of (turn-of c) .pre .0 in
+    (member-inside _ _ _ w _ (member c), element-there _ _ _ w _ (member c))
 
 cast-at-2 : tie.Need-cast-at-2 Inv-loop μ-loop
-cast-at-2 c =
-    let turn = c .before .before .before .before .before .before .before in
-    let w = start-of turn .pre .0 in
-    omega (arith, element-there _ _ _ w _ (member c) .inside, w .short)
+cast-at-2 c = let w = start-of (turn-of c) .pre .0 in omega (arith, member-there c .0, w .short)
+
+-- what the test of its member said, whichever test it was
+told : (c : tie.In-loop Inv-loop μ-loop) → let a = start-of c .args in let m = getD (a .w .now) (c .before .loop .e) 0 in let x = getD (a .list .now) (c .before .loop .e) (pos 0) in
+    m < a .members → (es : List (Elem Leaf)) → Standing (a .t .now) es (take (a .members) (a .places .now)) → (right r : Bool) → OneHit (a .t .now) (getD (a .places .now) m 0) x r → right ≡ r → memberHits matches es m x ≡ right
+told c l es s right r h q = told-hit _ _ _ (start-of c .pre .0) es s _ _ _ l h ∙ sym q
+
+-- the same of a leaf, which got the element as the machine reads it back from its bits
+told-leaf : (c : tie.In-loop Inv-loop μ-loop) → let a = start-of c .args in let m = getD (a .w .now) (c .before .loop .e) 0 in let x = getD (a .list .now) (c .before .loop .e) (pos 0) in
+    m < a .members → (es : List (Elem Leaf)) → Standing (a .t .now) es (take (a .members) (a .places .now)) → (right r : Bool) → Word x → OneHit (a .t .now) (getD (a .places .now) m 0) (again x) r → right ≡ r
+    → memberHits matches es m x ≡ right
+told-leaf c l es s right r word h q = told-leaf-hit _ _ _ (start-of c .pre .0) es s _ _ _ l word h ∙ sym q
+
+shared-slice-read-if4 : tie.Need-shared-slice-read-if4 Inv-loop μ-loop
+shared-slice-read-if4 c = omega (arith, member-there (c .before) .0)
+
+mul-leaf-hit : tie.Need-mul-leaf-hit Inv-loop μ-loop
+mul-leaf-hit c = let turn = turn-of (c .before .before) in omega (arith, turn .loop-test .taken, start-of turn .pre .1)
+
+shared-slice-copy-out-leaf-hit : tie.Need-shared-slice-copy-out-leaf-hit Inv-loop μ-loop
+shared-slice-copy-out-leaf-hit c = turn-of (c .before .before) .loop-test .taken
+
+leaf-hit-requires : tie.Need-leaf-hit-requires Inv-loop μ-loop
+leaf-hit-requires c κs = (member-there (c .before .before .before) .1, c .before .if4 .taken)
 
 hit-requires : tie.Need-hit-requires Inv-loop μ-loop
 hit-requires c κs =
-    let turn = c .before .before .before .before .before .before .before in
+    let at = c .before .before in
+    let turn = turn-of at in
     let p = start-of turn .pre in
-    (element-there _ _ _ (p .0) _ (member c), p .0 .short, turn .loop-test .taken, omega (arith, turn .loop-test .taken, p .1))
+    (member-there at .1, p .0 .short, turn .loop-test .taken, omega (arith, turn .loop-test .taken, p .1))
 
 returns-3 : tie.Need-returns-3 Inv-loop μ-loop
 returns-3 c =
-    let tested = c .before in
-    let turn = tested .before .before .before .before .before .before .before .before in
+    let at = c .before .before .before in
+    let turn = turn-of at in
     let p = start-of turn .pre in
     λ es s. wrong (stop-miss es _ _ _ _ (turn .before .loop .inv .0 es s) (p .2) (turn .loop-test .taken) (few turn es s)
-        (told-hit _ _ _ (p .0) es s _ _ _ _ (member (tested .before)) (tested .hit .ensures) ∙ not-true _ (c .if4 .taken)) (tested .before .before .before .before .before .before .if1 .taken)) refl
+        (⊎-elim (λ v. told-leaf turn (member at) es s _ _ (v .1 .given) (v .2 .ensures) (v .3)) (λ v. told turn (member at) es s _ _ (v .1 .ensures) (v .2)) (c .before .if4 .came) ∙ not-true _ (c .if5 .taken)) (at .before .before .before .before .before .if1 .taken)) refl
 
 add-e : tie.Need-add-e Inv-loop μ-loop
 add-e c = let turn = c .before .before in omega (arith, turn .loop-test .taken, start-of turn .pre .1)
@@ -121,7 +156,7 @@ loop-again c =
       λ es s.
           let g = turn .before .loop .inv .0 es s in
           ⊎-elim
-              (λ v. subst (λ (left : ℕ). Going es (start-of turn .args .list .now) (start-of turn .args .w .now) (turn .before .loop .e + 1) left) (sym (v .8)) (going-member es _ _ _ _ g (p .2) low (few turn es s) _ (sym (v .2 .ensures) ∙ not-false _ (v .3 .left)) (v .4 .ensures) (told-hit _ _ _ (p .0) es s _ _ _ _ (left-member turn _ (sym (v .2 .ensures) ∙ not-false _ (v .3 .left))) (v .6 .ensures) ∙ not-false _ (v .7 .left))))
+              (λ v. subst (λ (left : ℕ). Going es (start-of turn .args .list .now) (start-of turn .args .w .now) (turn .before .loop .e + 1) left) (sym (v .9)) (going-member es _ _ _ _ g (p .2) low (few turn es s) _ (sym (v .2 .ensures) ∙ not-false _ (v .3 .left)) (v .4 .ensures) (⊎-elim (λ u. told-leaf turn (left-member turn _ (sym (v .2 .ensures) ∙ not-false _ (v .3 .left))) es s _ _ (u .1 .given) (u .2 .ensures) (u .3)) (λ u. told turn (left-member turn _ (sym (v .2 .ensures) ∙ not-false _ (v .3 .left))) es s _ _ (u .1 .ensures) (u .2)) (v .7 .came) ∙ not-false _ (v .8 .left))))
               (λ v. subst (λ (left : ℕ). Going es (start-of turn .args .list .now) (start-of turn .args .w .now) (turn .before .loop .e + 1) left) (sym (v .1)) (going-spare es _ _ _ _ g (p .2) low (few turn es s) (v .0 .left)))
               (c .if1 .came),
       omega (arith, low),
@@ -155,6 +190,10 @@ left-over-spec =
     mul-at
     element-copy-out-at
     cast-at-2
+    shared-slice-read-if4
+    mul-leaf-hit
+    shared-slice-copy-out-leaf-hit
+    leaf-hit-requires
     hit-requires
     returns-3
     add-e

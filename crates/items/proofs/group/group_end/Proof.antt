@@ -1,11 +1,12 @@
 -- `items::group::group_end` meets its contract. The loop: what the items from here on give, with the members, the 20 and the places so
 -- far, is what all of them give. The measure is the number of items left. Assumes nothing.
 use mathlib.Core.Path.{refl, sym, ap, subst, _∙_}
-use mathlib.Core.Bool.{not, _&&_, Bool·not-not}
+use mathlib.Core.Bool.{not, _&&_}
 use mathlib.Core.Logic.{⊎-elim}
 use Prim.Native.Nat.{ℕ, _≤_}
 use native.Mathlib.Omega.{arith}
 use borrow.Author.Needs.{needs}
+use borrow.Author.Tests.{not-true, not-false}
 use lib.Dec.{eqb}
 use lib.ListN.{drop}
 use Rattle.grammar.specs.Leaf.{leafHead}
@@ -40,10 +41,12 @@ returns c =
     let turn = c .before .before .before .before .before .before in
     let a = turn .before .before .args in
     let read = c .before .before .before .member-end .ensures in
-    let kind = c .before .kind-at .ensures in
-    (go-stop _ _ (turn .loop .inv) _ _ _ _ (c .before .before .before .before .before .loop-test .taken)
-    (stepMember (sym (ap (λ (k : ℕ). a .stars && eqb k 32) kind) ∙ sym (Bool·not-not _) ∙ ap not (c .if2 .taken)) (read .0) refl refl)
-    (c .before .before .if1 .taken), read .1)
+    let kind = c .before .kind-at .ensures in (
+      go-stop _ _ (turn .loop .inv) _ _ _ _ (c .before .before .before .before .before .loop-test .taken)
+          (stepMember (sym (ap (λ (k : ℕ). a .stars && eqb k 32) kind) ∙ not-true _ (c .if2 .taken)) (read .0) refl refl)
+          (c .before .before .if1 .taken),
+      read .1,
+    )
 
 star-end-requires : tie.Need-star-end-requires Inv-loop μ-loop
 star-end-requires c κs = let g = c .before .before .before .before .before .before .loop .inv in (g .inside, g .short)
@@ -53,10 +56,12 @@ returns-2 c =
     let turn = c .before .before .before .before .before .before .before .before in
     let a = turn .before .before .args in
     let read = c .before .before .before .before .before .member-end .ensures in
-    let kind = c .before .before .before .kind-at .ensures in
-    (go-stop _ _ (turn .loop .inv) _ _ _ _ (c .before .before .before .before .before .before .before .loop-test .taken)
-    (stepStar (sym (ap (λ (k : ℕ). a .stars && eqb k 32) kind) ∙ sym (Bool·not-not _) ∙ ap not (c .before .before .if2 .left)) (c .before .star-end .ensures) refl refl (read .2))
-    (c .if3 .taken), read .1)
+    let kind = c .before .before .before .kind-at .ensures in (
+      go-stop _ _ (turn .loop .inv) _ _ _ _ (c .before .before .before .before .before .before .before .loop-test .taken)
+          (stepStar (sym (ap (λ (k : ℕ). a .stars && eqb k 32) kind) ∙ not-false _ (c .before .before .if2 .left)) (c .before .star-end .ensures) refl refl (read .2))
+          (c .if3 .taken),
+      read .1,
+    )
 
 add-star : tie.Need-add-star Inv-loop μ-loop
 add-star c = let g = c .before .before .before .before .before .before .before .before .loop .inv in omega (arith, g .inside, g .short)
@@ -80,7 +85,7 @@ loop-again c =
     ⊎-elim
     (λ w.
     go-step _ _ (turn .loop .inv) _ _ _ _ (c .before .before .before .loop-test .taken)
-    (stepStar (sym (ap (λ (k : ℕ). a .stars && eqb k 32) (w .1 .ensures)) ∙ sym (Bool·not-not _) ∙ ap not (w .2 .left)) (subst starred (sym (w .5)) (w .3 .ensures)) (w .6) (w .7) (read .2))
+    (stepStar (sym (ap (λ (k : ℕ). a .stars && eqb k 32) (w .1 .ensures)) ∙ not-false _ (w .2 .left)) (subst starred (sym (w .5)) (w .3 .ensures)) (w .6) (w .7) (read .2))
     (read .1) (omega (arith, w .4 .left, w .5)))
     (λ w.
     let under : c .if1 .p ≤ 16777215 = omega (arith, w .0 .left, w .1) in
