@@ -5,6 +5,7 @@
 -- CutAt may b rest from to w <-> w is a piece that the block b takes, up to some place, and after it a list of the kind `rest` from that place on
 -- Cuts may bs from to w <-> w assigns the elements from .. to - 1, cut into consecutive pieces, one for each of bs in order
 -- Fills may k n w <-> w gives each of the elements 0 .. n - 1 a member below k that may take it, and no member twice
+-- isOne b == b is one member and no spare element
 -- Inside bs <-> the members of each block are below 32
 -- Best P n found w <-> the first n bytes of w are the first list of P in byte order, where P has one; every other byte of w is 255
 -- Cutting may bs n found w <-> what `first_cut` gives: the first cut in byte order, where there is one; every other byte of w is 255
@@ -12,9 +13,10 @@
 -- Passing P r <-> r says whether P holds
 -- Assumes nothing: these are definitions.
 use mathlib.Core.Path.{_≡_}
-use mathlib.Core.Bool.{Bool, true, false}
+use mathlib.Core.Bool.{Bool, true, false, _&&_}
 use mathlib.Core.List.{List, [], _∷_}
 use Prim.Native.Nat.{ℕ, _+_, _-_, _≤_, _<_}
+use lib.Dec.{eqb}
 use lib.ListN.{length, getD, take, replicate}
 use Rattle.byte_order.specs.ByteOrder.{First, Joins}
 use Rattle.facts.specs.Counting.{cnt}
@@ -41,6 +43,9 @@ pub record Fills (may : ℕ → ℕ → Bool) (k n : ℕ) (w : List ℕ) : Type 
   pub member : (e : ℕ) → e < n → getD w e 0 < k
   pub right : (e : ℕ) → e < n → may (getD w e 0) e ≡ true
   pub once : (m : ℕ) → m < k → cnt m w ≤ 1
+
+unfoldable pub isOne : Block → Bool
+isOne b = eqb (b .k) 1 && (eqb (b .min) 0 && eqb (b .max) 0)
 
 unfoldable pub Inside : List Block → Type 0
 Inside [] = Unit {0}

@@ -63,11 +63,12 @@ one-byte : (m x : ℕ) → cnt m (x ∷ []) ≡ oneIf (eqb x m)
 unfolding cnt
 one-byte m x = omega arith
 
+pub slice-one : (e : ℕ) (w : List ℕ) → e < length w → slice e (e + 1) w ≡ getD w e 0 ∷ []
+slice-one e w l =
+    slice-cons e (e + 1) w 0 (omega arith) (omega arith) ∙ ap (λ (x : List ℕ). getD w e 0 ∷ x) (ap (λ (j : ℕ). slice j (e + 1) w) (sym (add-one e)) ∙ slice-empty (e + 1) w)
+
 slice-more : (from e : ℕ) (w : List ℕ) → from ≤ e → e < length w → slice from (e + 1) w ≡ slice from e w ++ (getD w e 0 ∷ [])
-slice-more from e w f l =
-    let last : slice e (e + 1) w ≡ getD w e 0 ∷ [] = slice-cons e (e + 1) w 0 (omega arith) (omega arith)
-    ∙ ap (λ (x : List ℕ). getD w e 0 ∷ x) (ap (λ (j : ℕ). slice j (e + 1) w) (sym (add-one e)) ∙ slice-empty (e + 1) w) in
-    slice-split from e (e + 1) w f (omega arith) (omega arith) ∙ ap (λ (x : List ℕ). slice from e w ++ x) last
+slice-more from e w f l = slice-split from e (e + 1) w f (omega arith) (omega arith) ∙ ap (λ (x : List ℕ). slice from e w ++ x) (slice-one e w l)
 
 pub cnt-more : (m from e : ℕ) (w : List ℕ) → from ≤ e → e < length w → cnt m (slice from (e + 1) w) ≡ cnt m (slice from e w) + oneIf (eqb (getD w e 0) m)
 cnt-more m from e w f l =

@@ -8,10 +8,10 @@ use lib.ListN.{getD, take, drop}
 use Rattle.rows.specs.Rows.{may as mayRows}
 use Rattle.blocks.specs.declared.Block.{Block}
 use Rattle.blocks.specs.Numbers.{blockIn, blocksIn}
-use Rattle.blocks.specs.Pieces.{Cutting}
+use Rattle.blocks.specs.Pieces.{Cutting, isOne}
 use Rattle.blocks.proofs.FirstLists.{best-same}
 use Rattle.blocks.proofs.LentBlocks.{lent, lent-none, lent-at, cuts-lent, lent-cuts}
-use Rattle.places.specs.Ways.{isOne, Agrees}
+use Rattle.places.specs.Ways.{Agrees}
 use Rattle.places.proofs.Backward.{ways-low}
 use Rattle.fronts.specs.Fronts.{Moved}
 use Rattle.fronts.specs.Given.{Ready, Prepares}

@@ -19,12 +19,13 @@ use Rattle.byte_order.specs.ByteOrder.{earlier}
 use Rattle.byte_order.proofs.ByteOrder.{earlier-irreflexive}
 use Rattle.place_masks.specs.Places.{Least, Behind, After}
 use Rattle.blocks.specs.declared.Block.{Block}
-use Rattle.blocks.specs.Pieces.{Takes}
+use Rattle.blocks.specs.Pieces.{Takes, isOne}
 use Rattle.blocks.proofs.Assignments.{takes-inv}
 use Rattle.assign.specs.Splice.{Spliced}
-use Rattle.places.specs.Ways.{Low, isOne, Agrees}
+use Rattle.places.specs.Ways.{Low, Agrees}
 use Rattle.places.specs.Bytes.{Lone, Held, AfterLast}
-use Rattle.places.proofs.Backward.{agrees-turn, takes-agree, leads-agree, spares-taken, one-parts, one-taken, taken-one}
+use Rattle.places.proofs.Backward.{agrees-turn, takes-agree, leads-agree, spares-taken}
+use Rattle.blocks.proofs.OneMember.{one-parts, one-taken, taken-one}
 use Rattle.places.proofs.Windows.{lone-before, lone-order, placed, placed-slice, held-placed}
 use Rattle.fronts.specs.Fronts.{Step, Leading, Standing, Moved}
 use Rattle.fronts.specs.Picks.{FirstMember, Chosen, Picking}

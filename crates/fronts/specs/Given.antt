@@ -15,7 +15,8 @@ use Rattle.rows.specs.Rows.{may as mayRows}
 use Rattle.blocks.specs.declared.Block.{Block}
 use Rattle.blocks.specs.Numbers.{blockIn}
 use Rattle.blocks.proofs.LentBlocks.{lent}
-use Rattle.places.specs.Ways.{Way, Ways, Low, isOne, Agrees}
+use Rattle.places.specs.Ways.{Way, Ways, Low, Agrees}
+use Rattle.blocks.specs.Pieces.{isOne}
 use Rattle.fronts.specs.Fronts.{Leading}
 
 pub record Ready (may : ℕ → ℕ → Bool) (rows : List ℕ) (b : Block) (ends Q n : ℕ) : Type 0 where

@@ -8,12 +8,13 @@ ghost use Rattle.assign.specs.Splice.{Spliced};
 ghost use Rattle.masks.specs.Masks.{bit};
 ghost use Rattle.rows.specs.Rows.{may as mayRows};
 ghost use Rattle.blocks.specs.Numbers.{blocksIn};
-ghost use Rattle.blocks.specs.Pieces.{Inside, Cutting};
-ghost use Rattle.places.specs.Ways.{Low, isOne};
+ghost use Rattle.blocks.specs.Pieces.{Inside, Cutting, isOne};
+ghost use Rattle.places.specs.Ways.{Low};
 ghost use Rattle.fronts.specs.Fronts.{Leading, Standing, Moved};
 ghost use Rattle.fronts.specs.Given.{Ready, ReadyFor, Prepares, Prepared};
 use blocks::Block;
 use blocks::block_at;
+use blocks::is_one;
 use format::SPARE;
 use masks::with_place;
 use pick::first_member;
@@ -24,7 +25,6 @@ use place_masks::in_both;
 use place_masks::lowest_place;
 use place_masks::up_to;
 use places::after_last;
-use places::is_one;
 
 mod pick; // the first of the lists that a group takes
 

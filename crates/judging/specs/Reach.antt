@@ -26,7 +26,7 @@ use Rattle.masks.specs.Masks.{bit, Plus}
 use Rattle.facts.specs.Counting.{between, oneIf, cnt}
 use Rattle.blocks.specs.Assignment.{takes}
 use Rattle.blocks.specs.declared.Block.{Block}
-use Rattle.blocks.specs.Pieces.{Takes, Cuts, Passing}
+use Rattle.blocks.specs.Pieces.{Takes, Cuts, Passing, isOne}
 
 abbrev pub anyPair : ℕ → ℕ → Bool
 anyPair m e = true
@@ -66,10 +66,8 @@ pub record Ends (may : ℕ → ℕ → Bool) (b : Block) (from stop : ℕ) (w : 
   pub only : (p : ℕ) → bit r p ≡ true → bit ends p ≡ false → (from ≤ p) × (p < stop) × Takes may b from p (slice from p w)
 
 pub record IsOne (m : ℕ) (b : Block) : Type 0 where
+  pub one : isOne b ≡ true
   pub first : b .first ≡ m
-  pub k : b .k ≡ 1
-  pub min : b .min ≡ 0
-  pub max : b .max ≡ 0
 
 pub record OneOn (places spares r : ℕ) : Type 0 where
   pub some : (p : ℕ) → bit r p ≡ true → (1 ≤ p) × (bit places (p - 1) ≡ true) × (bit spares (p - 1) ≡ true)

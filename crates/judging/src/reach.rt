@@ -9,6 +9,7 @@ ghost use Rattle.blocks.specs.declared.Block.{Block as BlockOf};
 ghost use Rattle.blocks.specs.Pieces.{Passing};
 ghost use Rattle.judging.specs.Reach.{anyPair, SparesOf, Reached, Fresh, Group, Whole, Marked, Ends, IsOne, OneOn, Along, Extended};
 use blocks::Block;
+use blocks::is_one;
 use format::SPARE;
 use masks::has;
 use masks::lesser;
@@ -142,7 +143,7 @@ fn extend_by_members(b: Block, reach: u64, w: &[u8]) -> u64
     ensures { λ r. ⌜ Extended anyPair b reach (now (w .entry)) r ⌝ }
 {
     let all = members_of(b);
-    let one = (b.k == 1) & ((b.min == 0) & (b.max == 0));
+    let one = is_one(b);
     let mut next: u64 = 0;
     let mut left = reach;
     while left != 0 {

@@ -66,12 +66,13 @@ pub fn match_planned(template: &[u8], plan: Plan, list: &[i32], room: &mut [u8])
         return NO_MATCH;
     }
     let places = plan.places;
+    let blocks = plan.blocks;
     let f = first_witness(
         template,
         &places,
         plan.members,
         plan.kind,
-        &plan.blocks,
+        &blocks,
         plan.count,
         list,
     );

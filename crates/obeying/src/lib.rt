@@ -16,6 +16,8 @@ use format::RECORD_OF;
 use format::SUBSET;
 use judging::cut_passes;
 use judging::none_spare;
+use plain::counts_up;
+use plain::is_plain;
 
 // Whether no member is left over, and the spare ones of n elements are as many as the block allows.
 fn one_met(b: Block, left: u64, n: usize) -> bool
@@ -26,8 +28,8 @@ fn one_met(b: Block, left: u64, n: usize) -> bool
     (left == 0) & ((k + b.min as usize <= n) & (n <= k + b.max as usize))
 }
 
-// Whether w, whose pairs are right and which leaves these members over, meets what a body of this kind asks besides: a record of by its blocks, a
-// set of or a superset by its one block, which has all members, a subset by no spare element.
+// Whether w, whose pairs are right and which leaves these members over, meets what a body of this kind asks besides: a record of by its blocks (by
+// plain ones one list only is cut), a set of or a superset by its one block, which has all members, a subset by no spare element.
 pub fn body_met(kind: u8, blocks: &[u32; 32], count: usize, left: u64, w: &[u8]) -> bool
     requires { ⌜ (count ≤ 32) × (length (now w) ≤ 32) × Inside (blocksIn (take count (now blocks))) ⌝ }
     ensures { λ r. ⌜ ((b : Body Leaf) → Says kind (blocksIn (take count (now (blocks .entry)))) b → Spread b (now (w .entry)) left → r ≡ bodyMet b (now (w .entry))) ⌝ }
@@ -36,6 +38,9 @@ pub fn body_met(kind: u8, blocks: &[u32; 32], count: usize, left: u64, w: &[u8])
         return none_spare(w);
     }
     if kind == RECORD_OF {
+        if is_plain(blocks, count) {
+            return counts_up(w, count);
+        }
         return cut_passes(blocks, count, w);
     }
     one_met(block_at(blocks, 0), left, w.len())

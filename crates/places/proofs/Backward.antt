@@ -16,10 +16,11 @@ use Rattle.facts.proofs.Spans.{between-in, between-to}
 use Rattle.place_masks.specs.Places.{Before}
 use Rattle.blocks.specs.declared.Block.{Block}
 use Rattle.blocks.specs.Assignment.{takes}
-use Rattle.blocks.specs.Pieces.{Takes, Cuts}
+use Rattle.blocks.specs.Pieces.{Takes, Cuts, isOne}
 use Rattle.blocks.proofs.Assignments.{takes-spare, takes-member, takes-inv, assigns-rows}
 use Rattle.blocks.proofs.Cutting.{cuts-order}
-use Rattle.places.specs.Ways.{Ways, Low, Leads, Back, isOne, Agrees}
+use Rattle.blocks.proofs.OneMember.{one-taken, taken-one}
+use Rattle.places.specs.Ways.{Ways, Low, Leads, Back, Agrees}
 
 -- ---- the places are those of the list
 pub ways-low : {may : ℕ → ℕ → Bool} {bs : List Block} {n good : ℕ} → Ways may bs n good → Low good n
@@ -109,54 +110,6 @@ back-spares may b {good} {r} z f = record {
 }
 
 -- ---- one member and no spare element
-pub one-parts : (b : Block) → isOne b ≡ true → (b .k ≡ 1) × (b .min ≡ 0) × (b .max ≡ 0)
-unfolding isOne
-one-parts b h =
-    let r = and-right (eqb (b .k) 1) (eqb (b .min) 0 && eqb (b .max) 0) h in
-    (eqb-true (b .k) 1 (and-left (eqb (b .k) 1) (eqb (b .min) 0 && eqb (b .max) 0) h), eqb-true (b .min) 0 (and-left (eqb (b .min) 0) (eqb (b .max) 0) r), eqb-true (b .max) 0 (and-right (eqb (b .min) 0) (eqb (b .max) 0) r))
-
-pub one-taken : (may : ℕ → ℕ → Bool) (b : Block) (p : ℕ) → isOne b ≡ true → may (b .first) p ≡ true → Takes may b p (p + 1) (b .first ∷ [])
-unfolding cnt
-one-taken may b p h o =
-    let q = one-parts b h in
-    let k = q .0 in
-    record {
-      assigned = record {
-        size = omega arith;
-        right = at;
-        once = λ v f t. let e : b .first ≡ v = omega arith in let z = hit (b .first) v e in omega arith;
-      };
-      enough = let m = q .1 in omega arith;
-      few = omega arith;
-    }
-  where
-    at : (i : ℕ) → i < length (b .first ∷ []) → takes may (b .first) (b .k) (p + i) (getD (b .first ∷ []) i 0) ≡ true
-    at zero l = let k = one-parts b h .0 in takes-member may (b .first) (b .k) (p + 0) (b .first) (between-in (b .first) (b .first + b .k) (b .first) (omega arith) (omega arith))
-        (subst (λ (j : ℕ). may (b .first) j ≡ true) (let z : p ≡ p + 0 = omega arith in z) o)
-    at (suc i) l = absurd (omega arith)
-
-pub taken-one : {may : ℕ → ℕ → Bool} {b : Block} {p q : ℕ} (v : List ℕ) → isOne b ≡ true → b .first < 32 → p ≤ q → Takes may b p q v → (q ≡ p + 1) × (v ≡ b .first ∷ []) × (may (b .first) p ≡ true)
-unfolding cnt
-taken-one {may} {b} {p} {q} [] h l o t = let k = one-parts b h .0 in let n = t .assigned .size in let e = t .enough in absurd (omega arith)
-taken-one {may} {b} {p} {q} (x ∷ []) h l o t =
-    let z = one-parts b h in
-    let k = z .0 in
-    let top = z .2 in
-    let n = t .assigned .size in
-    let e = t .enough in
-    let f = t .few in
-    let c = t .assigned .once (b .first) (omega arith) (omega arith) in
-    let is : x ≡ b .first = ⊎-elim (λ (y : x ≡ b .first). y) (λ (y : x ≡ b .first → ⊥). let m = miss x (b .first) y in absurd (omega arith)) (same? x (b .first)) in
-    let r = t .assigned .right 0 (omega arith) in (
-      omega arith,
-      ap (λ (y : ℕ). y ∷ []) is,
-      ⊎-elim
-          (λ (y : x ≡ 255). absurd (omega arith))
-          (λ (y : (between (b .first) (b .first + b .k) x ≡ true) × (may x (p + 0) ≡ true)).
-          subst (λ (m : ℕ). may m p ≡ true) is (subst (λ (j : ℕ). may x j ≡ true) (let w : p + 0 ≡ p = omega arith in w) (y .1)))
-          (takes-inv may (b .first) (b .k) (p + 0) x r),
-    )
-taken-one {may} {b} {p} {q} (x ∷ y ∷ v) h l o t = let z = one-parts b h in let k = z .0 in let top = z .2 in let n = t .assigned .size in let f = t .few in absurd (omega arith)
 
 -- the member may take the element at each place before a good one, where r says so
 pub record Tested (may : ℕ → ℕ → Bool) (b : Block) (good r : ℕ) : Type 0 where

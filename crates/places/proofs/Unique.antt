@@ -12,8 +12,6 @@ use Rattle.facts.proofs.Cases.{below}
 use Rattle.masks.proofs.Masks.{bits-same}
 use Rattle.place_masks.proofs.Unique.{tests-same}
 use Rattle.places.specs.Bytes.{AfterLast}
-use Rattle.places.proofs.is_one.Reads as is-one-reads
-use Rattle.places.proofs.is_one.Kinds as is-one-kinds
 use Rattle.places.proofs.before_one.Reads as before-one-reads
 use Rattle.places.proofs.before_one.Kinds as before-one-kinds
 use Rattle.places.proofs.after_last.Reads as after-last-reads
@@ -29,10 +27,6 @@ last-le {w} {from} {to} {r} {s} p q =
 
 pub last-same : {w : List ℕ} {from to r s : ℕ} → AfterLast w from to r → AfterLast w from to s → r ≡ s
 last-same p q = let a = last-le p q in let b = last-le q p in omega arith
-
-pub is-one-unique : (κs : Lfts 0) (a : Dens κs is-one-kinds.ps) (r r' : resT is-one-kinds.r κs .Denot) (s s' : AtExit (endedOf 0 is-one-kinds.ps is-one-kinds.r) κs)
-    → is-one-reads.Post κs a r s → is-one-reads.Post κs a r' s' → r ≡ r'
-is-one-unique κs a r r' s s' p q = p ∙ sym q
 
 pub before-one-unique : (κs : Lfts 0) (a : Dens κs before-one-kinds.ps) (r r' : resT before-one-kinds.r κs .Denot) (s s' : AtExit (endedOf 0 before-one-kinds.ps before-one-kinds.r) κs)
     → before-one-reads.Post κs a r s → before-one-reads.Post κs a r' s' → r ≡ r'

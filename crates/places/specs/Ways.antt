@@ -4,7 +4,6 @@
 -- Low places n       <-> the places are at most n
 -- Leads may b good p <-> the block b takes the elements from p to one of the places `good`
 -- Back may b good r  <-> the mask r has exactly the places from which b leads to one of `good`
--- isOne b            == b is one member and no spare element
 -- Agrees may may' b n <-> the two say the same of each member of b and each element below n
 -- Led may b good p r <-> from each place of r the block b leads to one of `good`, and p is in r where it leads there from p
 -- Sought may b good todo r <-> from each place of r the block b leads to one of `good`; each place from which it does is in r or still to do, and what is to do
@@ -43,9 +42,6 @@ pub record Leads (may : ℕ → ℕ → Bool) (b : Block) (good p : ℕ) : Type 
 pub record Back (may : ℕ → ℕ → Bool) (b : Block) (good r : ℕ) : Type 0 where
   pub some : (p : ℕ) → bit r p ≡ true → Leads may b good p
   pub all : (p : ℕ) → Leads may b good p → bit r p ≡ true
-
-unfoldable pub isOne : Block → Bool
-isOne b = eqb (b .k) 1 && (eqb (b .min) 0 && eqb (b .max) 0)
 
 pub record Agrees (may may' : ℕ → ℕ → Bool) (b : Block) (n : ℕ) : Type 0 where
   pub same : (m e : ℕ) → between (b .first) (b .first + b .k) m ≡ true → e < n → may m e ≡ may' m e

@@ -7,7 +7,7 @@ ghost use lib.Dec.{ltb};
 ghost use Rattle.masks.specs.Masks.{bit};
 ghost use Rattle.place_masks.specs.Places.{Ahead};
 ghost use Rattle.rows.specs.Rows.{may};
-ghost use Rattle.places.specs.Ways.{Low, Back, Led, isOne};
+ghost use Rattle.places.specs.Ways.{Low, Back, Led};
 ghost use Rattle.places.specs.Bytes.{AfterLast};
 use assign::first_assignment;
 use blocks::Block;
@@ -19,13 +19,6 @@ use place_masks::highest_place;
 use place_masks::in_either;
 use place_masks::left_out;
 use place_masks::up_to;
-
-// Whether the block is one member and no spare element.
-pub fn is_one(b: Block) -> bool
-    ensures { λ r. ⌜ r ≡ isOne b ⌝ }
-{
-    (b.k == 1) & ((b.min == 0) & (b.max == 0))
-}
 
 // The elements below 32 that one member may have before the good places: those just before one.
 pub fn before_one(good: u64) -> u32

@@ -25,8 +25,10 @@ use Rattle.grammar.specs.Members.{memberHits}
 use Rattle.element_match.specs.Contract.{Among, HitsAt}
 use Rattle.member_rows.specs.Places.{MembersAt, MembersMarked}
 use Rattle.member_rows.proofs.RowByRow.{member-at, standing-length, places-count}
-use Rattle.places.specs.Ways.{Back, Low, isOne, Agrees}
-use Rattle.places.proofs.Backward.{Tested, back-one, back-spares, back-agree, one-parts}
+use Rattle.places.specs.Ways.{Back, Low, Agrees}
+use Rattle.blocks.specs.Pieces.{isOne}
+use Rattle.places.proofs.Backward.{Tested, back-one, back-spares, back-agree}
+use Rattle.blocks.proofs.OneMember.{one-parts}
 use Rattle.records.specs.Records.{pairOf, Sound, Before}
 
 -- ---- the rows stay as they are

@@ -15,11 +15,11 @@ use Rattle.rows.specs.Rows.{may}
 use Rattle.rows.proofs.Rows.{zeros-may}
 use Rattle.blocks.specs.declared.Block.{Block}
 use Rattle.blocks.specs.Numbers.{blockIn, blocksIn}
-use Rattle.blocks.specs.Pieces.{Cuts, Cutting, Inside}
+use Rattle.blocks.specs.Pieces.{Cuts, Cutting, Inside, isOne}
 use Rattle.blocks.proofs.LentBlocks.{lent, cuts-lent}
 use Rattle.grammar.specs.Element.{Elem}
 use Rattle.grammar.specs.Leaf.{Leaf}
-use Rattle.places.specs.Ways.{Ways, Way, Back, Low, isOne, Agrees}
+use Rattle.places.specs.Ways.{Ways, Way, Back, Low, Agrees}
 use Rattle.places.proofs.LentPlaces.{lent-end, lent-back, lent-never, none-best}
 use Rattle.plain.specs.Plain.{Plain}
 use Rattle.fronts.specs.Given.{Told, Prepares}

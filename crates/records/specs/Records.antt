@@ -18,7 +18,8 @@ use Rattle.grammar.specs.Element.{Elem}
 use Rattle.grammar.specs.Leaf.{Leaf}
 use Rattle.grammar.specs.Matches.{matches}
 use Rattle.grammar.specs.Members.{memberHits}
-use Rattle.places.specs.Ways.{Back, isOne}
+use Rattle.places.specs.Ways.{Back}
+use Rattle.blocks.specs.Pieces.{isOne}
 
 abbrev pub pairOf : List (Elem Leaf) → List ℤ → ℕ → ℕ → Bool
 pairOf es xs m e = memberHits matches es m (getD xs e (pos 0))

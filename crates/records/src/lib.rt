@@ -17,6 +17,7 @@ ghost use Rattle.records.specs.Records.{pairOf, Below, Before};
 use blocks::Block;
 use blocks::Found;
 use blocks::block_at;
+use blocks::is_one;
 use element_match::hit;
 use element_match::hits;
 use element_match::leaf_hit;
@@ -30,7 +31,6 @@ use member_rows::widened;
 use place_masks::before_spares;
 use places::before_group;
 use places::before_one;
-use places::is_one;
 use plain::is_plain;
 
 // The places from which b leads to a good one. The rows get the members of a group.

@@ -36,7 +36,7 @@ returns-4 c =
     let small = short .before in
     let start = small .before .before .before in
     let a = start .args in
-    match-refused (a .template .now) (a .list .now) (small .if1 .left, short .if2 .left) (a .t2) (start .pre) (a .room .now) (fits .if3 .left) (c .if4 .taken)
+    match-refused (a .template .now) (a .list .now) (small .if1 .left, short .if2 .left) (a .plan) (start .pre) (a .room .now) (fits .if3 .left) (c .if4 .taken)
 
 length-met-requires : tie.Need-length-met-requires
 length-met-requires c κs = search needs
@@ -49,10 +49,10 @@ returns-5 c =
     let small = short .before in
     let start = small .before .before .before in
     let a = start .args in
-    match-unmet (a .template .now) (a .list .now) (small .if1 .left, short .if2 .left) (a .t2) (start .pre) (zero .if4 .left) _ (c .before .length-met .ensures) (a .room .now) (fits .if3 .left) (not-true _ (c .if5 .taken))
+    match-unmet (a .template .now) (a .list .now) (small .if1 .left, short .if2 .left) (a .plan) (start .pre) (zero .if4 .left) _ (c .before .length-met .ensures) (a .room .now) (fits .if3 .left) (not-true _ (c .if5 .taken))
 
 -- the plan of an accepted template, and a list that is short enough
-ready : (c : tie.Else4) → let start = c .before .before .before .before .before .before in Ready (start .args .template .now) (start .args .t2) (length (start .args .list .now))
+ready : (c : tie.Else4) → let start = c .before .before .before .before .before .before in Ready (start .args .template .now) (start .args .plan) (length (start .args .list .now))
 ready c = planned-ready _ _ _ (c .before .before .before .before .before .before .pre) (c .if4 .left) (c .before .before .if2 .left)
 
 first-witness-requires : tie.Need-first-witness-requires
@@ -70,7 +70,7 @@ returns-6 c =
     let small = short .before in
     let start = small .before .before .before in
     let a = start .args in
-    match-none (a .template .now) (a .list .now) (small .if1 .left, short .if2 .left) (a .t2) (start .pre) (zero .if4 .left) _ (met .before .length-met .ensures) (not-false _ (met .if5 .left)) _ _ (given .first-witness .ensures) (a .room .now) (fits .if3 .left) (not-true _ (c .if6 .taken))
+    match-none (a .template .now) (a .list .now) (small .if1 .left, short .if2 .left) (a .plan) (start .pre) (zero .if4 .left) _ (met .before .length-met .ensures) (not-false _ (met .if5 .left)) _ _ (given .first-witness .ensures) (a .room .now) (fits .if3 .left) (not-true _ (c .if6 .taken))
 
 write-witness-requires : tie.Need-write-witness-requires
 write-witness-requires c κs = search needs
@@ -89,7 +89,7 @@ returns-7 c =
     let small = short .before in
     let start = small .before .before .before in
     let a = start .args in
-    match-found (a .template .now) (a .list .now) (small .if1 .left, short .if2 .left) (a .t2) (start .pre) (zero .if4 .left) _ (met .before .length-met .ensures) (not-false _ (met .if5 .left)) _ _ (given .first-witness .ensures) (a .room .now) (fits .if3 .left) (not-false _ (there .if6 .left)) _ (c .before .before .write-witness .ensures)
+    match-found (a .template .now) (a .list .now) (small .if1 .left, short .if2 .left) (a .plan) (start .pre) (zero .if4 .left) _ (met .before .length-met .ensures) (not-false _ (met .if5 .left)) _ _ (given .first-witness .ensures) (a .room .now) (fits .if3 .left) (not-false _ (there .if6 .left)) _ (c .before .before .write-witness .ensures)
 
 pub match-planned-spec : {M : Type 1} → statement M
 match-planned-spec =

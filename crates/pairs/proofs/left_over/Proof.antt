@@ -140,7 +140,7 @@ returns-3 c =
     let turn = turn-of at in
     let p = start-of turn .pre in
     λ es s. wrong (stop-miss es _ _ _ _ (turn .before .loop .inv .0 es s) (p .2) (turn .loop-test .taken) (few turn es s)
-        (⊎-elim (λ v. told-leaf turn (member at) es s _ _ (v .1 .given) (v .2 .ensures) (v .3)) (λ v. told turn (member at) es s _ _ (v .1 .ensures) (v .2)) (c .before .if4 .came) ∙ not-true _ (c .if5 .taken)) (at .before .before .before .before .before .if1 .taken)) refl
+    (⊎-elim (λ v. told-leaf turn (member at) es s _ _ (v .1 .given) (v .2 .ensures) (v .3)) (λ v. told turn (member at) es s _ _ (v .1 .ensures) (v .2)) (c .before .if4 .came) ∙ not-true _ (c .if5 .taken)) (at .before .before .before .before .before .if1 .taken)) refl
 
 add-e : tie.Need-add-e Inv-loop μ-loop
 add-e c = let turn = c .before .before in omega (arith, turn .loop-test .taken, start-of turn .pre .1)
@@ -156,9 +156,9 @@ loop-again c =
       λ es s.
           let g = turn .before .loop .inv .0 es s in
           ⊎-elim
-              (λ v. subst (λ (left : ℕ). Going es (start-of turn .args .list .now) (start-of turn .args .w .now) (turn .before .loop .e + 1) left) (sym (v .9)) (going-member es _ _ _ _ g (p .2) low (few turn es s) _ (sym (v .2 .ensures) ∙ not-false _ (v .3 .left)) (v .4 .ensures) (⊎-elim (λ u. told-leaf turn (left-member turn _ (sym (v .2 .ensures) ∙ not-false _ (v .3 .left))) es s _ _ (u .1 .given) (u .2 .ensures) (u .3)) (λ u. told turn (left-member turn _ (sym (v .2 .ensures) ∙ not-false _ (v .3 .left))) es s _ _ (u .1 .ensures) (u .2)) (v .7 .came) ∙ not-false _ (v .8 .left))))
-              (λ v. subst (λ (left : ℕ). Going es (start-of turn .args .list .now) (start-of turn .args .w .now) (turn .before .loop .e + 1) left) (sym (v .1)) (going-spare es _ _ _ _ g (p .2) low (few turn es s) (v .0 .left)))
-              (c .if1 .came),
+          (λ v. subst (λ (left : ℕ). Going es (start-of turn .args .list .now) (start-of turn .args .w .now) (turn .before .loop .e + 1) left) (sym (v .9)) (going-member es _ _ _ _ g (p .2) low (few turn es s) _ (sym (v .2 .ensures) ∙ not-false _ (v .3 .left)) (v .4 .ensures) (⊎-elim (λ u. told-leaf turn (left-member turn _ (sym (v .2 .ensures) ∙ not-false _ (v .3 .left))) es s _ _ (u .1 .given) (u .2 .ensures) (u .3)) (λ u. told turn (left-member turn _ (sym (v .2 .ensures) ∙ not-false _ (v .3 .left))) es s _ _ (u .1 .ensures) (u .2)) (v .7 .came) ∙ not-false _ (v .8 .left))))
+          (λ v. subst (λ (left : ℕ). Going es (start-of turn .args .list .now) (start-of turn .args .w .now) (turn .before .loop .e + 1) left) (sym (v .1)) (going-spare es _ _ _ _ g (p .2) low (few turn es s) (v .0 .left)))
+          (c .if1 .came),
       omega (arith, low),
     )
 
@@ -170,7 +170,7 @@ returns-4 c =
     let left = c .before in
     let start = left .before .before .before .before .before in
     λ es s. subst (λ (r : ℕ). Paired es (start .args .list .now) (start .args .w .now) r) (sym (c .said .ensures))
-        (going-end es _ _ _ _ (start .pre .2) (omega (arith, left .loop-test .left, left .before .loop .inv .1)) (left .before .loop .inv .0 es s))
+    (going-end es _ _ _ _ (start .pre .2) (omega (arith, left .loop-test .left, left .before .loop .inv .1)) (left .before .loop .inv .0 es s))
 
 pub left-over-spec : {M : Type 1} → statement M
 left-over-spec =

@@ -3,7 +3,7 @@ use native.Mathlib.Omega.{arith}
 use Prim.Native.Nat.{_<_}
 use mathlib.Core.Path.{_≡_, refl, sym, _∙_}
 use Rattle.member_rows.proofs.RowByRow.{element-there}
-use Rattle.places.proofs.Backward.{one-parts}
+use Rattle.blocks.proofs.OneMember.{one-parts}
 use Rattle.records.proofs.Blocks.{before-spares, before-member, asked-among, member-tested, members-fewer, before-group}
 use borrow.Author.Needs.{needs}
 use Rattle.records.proofs.before_block.Statement.{statement}

@@ -83,7 +83,7 @@ returns-2 c =
     let turn = c .before .before .before .before in
     let p = start-of turn .pre in
     λ es vs s plain. one-missed es (start-of turn .args .list .now) _ vs plain (omega (arith, p .1, p .0 .few)) _ _ refl (omega (arith, turn .loop-test .taken, turn .before .before .if1 .left))
-        (told (c .before) es s ∙ not-true _ (c .if3 .taken))
+    (told (c .before) es s ∙ not-true _ (c .if3 .taken))
 
 cast-w : tie.Need-cast-w Inv-loop μ-loop
 cast-w c = let turn = c .before .before .before .before in let s = start-of turn in omega (arith, member turn, s .pre .0 .few)

@@ -1,8 +1,8 @@
 -- `extend_by_members` meets its contract. The loop: the ends of the pieces that begin at a reached place which is not left are found. Assumes nothing.
+use mathlib.Core.Path.{refl, sym, _∙_}
 use native.Mathlib.Omega.{arith}
 use Prim.Native.Nat.{_≤_}
 use lib.ListN.{length}
-use Rattle.judging.proofs.OneMember.{is-one}
 use Rattle.facts.specs.Counting.{count}
 use Rattle.masks.specs.Masks.{bit}
 use Rattle.judging.specs.Reach.{anyPair}
@@ -19,6 +19,9 @@ abbrev μ-loop : tie.MeasureT-loop
 members-of-requires : tie.Need-members-of-requires Inv-loop μ-loop
 members-of-requires c κs = c .before .pre .0
 
+is-one-requires : tie.Need-is-one-requires Inv-loop μ-loop
+is-one-requires c κs = tt
+
 loop-holds : tie.Need-loop-holds Inv-loop μ-loop
 loop-holds c = extending-start _ _ _ _
 
@@ -32,19 +35,19 @@ left-out-requires : tie.Need-left-out-requires Inv-loop μ-loop
 left-out-requires c κs = tt
 
 -- the place of this turn
-inside : (c : tie.After-left-out Inv-loop μ-loop) → c .before .before .lowest-place .result ≤ length (c .before .before .before .before .before .before .before .before .before .before .args .w .now)
+inside : (c : tie.After-left-out Inv-loop μ-loop) → c .before .before .lowest-place .result ≤ length (c .before .before .before .before .before .before .before .before .args .w .now)
 inside c =
     let turn = c .before .before .before .before in
-    turn .before .before .before .before .before .before .pre .3 _ (turn .loop .inv .fewer _ (c .before .before .lowest-place .ensures .inside))
+    turn .before .before .before .before .pre .3 _ (turn .loop .inv .fewer _ (c .before .before .lowest-place .ensures .inside))
 
 one-end-requires : tie.Need-one-end-requires Inv-loop μ-loop
 one-end-requires c κs =
-    let p = c .before .before .before .before .before .before .before .before .before .before .before .pre in
+    let p = c .before .before .before .before .before .before .before .before .before .pre in
     (omega (arith, p .0, p .1), inside (c .before), p .2)
 
 piece-ends-requires : tie.Need-piece-ends-requires Inv-loop μ-loop
 piece-ends-requires c κs =
-    let held = c .before .before .before .before .before .before .before .before .before in
+    let held = c .before .before .before .before .before .before .before in
     let p = held .before .before .pre in
     (p .0, held .members-of .ensures, inside (c .before), p .2)
 
@@ -58,7 +61,7 @@ loop-again : tie.Need-loop-again Inv-loop μ-loop
 loop-again c =
     let out = c .before .before in
     let low = out .before .before .lowest-place .ensures in
-    extending-step (out .before .before .before .before .loop .inv) _ _ _ (low .inside) (out .before .with-place .ensures) (out .left-out .ensures) (c .one-end .ensures _ (is-one _ (c .before .if1 .taken)))
+    extending-step (out .before .before .before .before .loop .inv) _ _ _ (low .inside) (out .before .with-place .ensures) (out .left-out .ensures) (c .one-end .ensures _ (record { one = sym (out .before .before .before .before .before .is-one .ensures) ∙ c .before .if1 .taken; first = refl }))
 
 loop-less-2 : tie.Need-loop-less-2 Inv-loop μ-loop
 loop-less-2 c =
@@ -82,6 +85,7 @@ extend-by-members-spec =
     Inv-loop
     μ-loop
     members-of-requires
+    is-one-requires
     loop-holds
     lowest-place-requires
     with-place-requires

@@ -1,8 +1,8 @@
 -- `is_one` meets its contract. Assumes nothing.
 use mathlib.Core.Path.{refl}
-use Rattle.places.specs.Ways.{isOne}
-use Rattle.places.proofs.is_one.Statement.{statement}
-use Rattle.places.proofs.is_one.Tie as tie
+use Rattle.blocks.specs.Pieces.{isOne}
+use Rattle.blocks.proofs.is_one.Statement.{statement}
+use Rattle.blocks.proofs.is_one.Tie as tie
 
 returns : tie.Need-returns
 unfolding isOne
