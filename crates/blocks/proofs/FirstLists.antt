@@ -1,5 +1,5 @@
 -- The first list of a kind, as `Best` says it, and tests that say whether something holds. Assumes nothing.
--- best-complete, best-found: where there is a list, one is found, and none comes before it. best-unique: one answer, every byte included. best-same: of what is equivalent.
+-- best-complete, best-found: where there is a list, one is found, and none comes before it. best-unique: one answer, every byte included. best-same: of what is equivalent. none-best: there is none.
 -- passing-true, passing-false: a test that is known. passing-same: of what is equivalent. passing-holds, passing-unique: what holds passes, and there is one answer.
 use mathlib.Core.Path.{_≡_, refl, sym, ap, _∙_}
 use mathlib.Core.Logic.{_⊎_, ⊎-elim}
@@ -7,7 +7,7 @@ use mathlib.Core.Bool.{Bool, true, false}
 use mathlib.Core.List.{List}
 use Prim.Native.Nat.{ℕ, _≤_, _<_}
 use native.Mathlib.Omega.{arith}
-use lib.ListN.{length, getD, take}
+use lib.ListN.{length, getD, take, replicate, length-replicate, getD-replicate}
 use lib.Seq.{getD-take, ext-getD}
 use Rattle.byte_order.specs.ByteOrder.{earlier}
 use Rattle.blocks.specs.Pieces.{Best, Passing}
@@ -66,3 +66,13 @@ passing-unique {P} {r} {r'} h k = ⊎-elim
     (λ (t : r ≡ true). t ∙ sym (passing-holds k (h .passed t)))
     (λ (f : r ≡ false). f ∙ sym (not-so r' (λ t. clash (passing-holds h (k .passed t)) f)))
     (holds? r)
+
+-- there is none
+pub none-best : {P : List ℕ → Type 0} {n : ℕ} {w : List ℕ} → w ≡ replicate 32 255 → ((v : List ℕ) → P v → ⊥) → Best P n false w
+none-best {P} {n} {w} q never = record {
+  best = λ t. absurd (clash t refl);
+  none = λ _. never;
+  size = ap (λ (x : List ℕ). length x) q ∙ length-replicate {A = ℕ} 32 255;
+  outside = λ i _ l. ap (λ (x : List ℕ). getD x i 0) q ∙ getD-replicate {A = ℕ} 32 i 255 0 l;
+  blank = λ _. q;
+}

@@ -8,7 +8,7 @@
 -- isOne b == b is one member and no spare element
 -- Inside bs <-> the members of each block are below 32
 -- Best P n found w <-> the first n bytes of w are the first list of P in byte order, where P has one; every other byte of w is 255
--- Cutting may bs n found w <-> what `first_cut` gives: the first cut in byte order, where there is one; every other byte of w is 255
+-- Cutting may bs n found w <-> the first cut in byte order, where there is one; every other byte of w is 255
 -- Filling may k n found w <-> the same of `first_filling`
 -- Passing P r <-> r says whether P holds
 -- Assumes nothing: these are definitions.

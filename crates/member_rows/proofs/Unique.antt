@@ -1,17 +1,18 @@
 -- The public functions' promises allow one result only, stated of the contracts themselves; of `mark_members` the rows of the list's elements.
 -- Assumes nothing.
-use mathlib.Core.Path.{_≡_, sym, ap, _∙_}
-use mathlib.Core.Bool.{Bool}
+use mathlib.Core.Path.{_≡_, sym, _∙_}
+use mathlib.Core.Bool.{true, false}
 use mathlib.Core.Logic.{⊎-elim}
+use mathlib.Core.List.{List}
 use Prim.Native.Nat.{ℕ, _<_}
-use lib.IntN.{pos}
-use lib.ListN.{length, getD}
+use lib.IntN.{ℤ, pos}
+use lib.ListN.{length}
 use lib.Seq.{ext-getD}
 use Rattle.facts.specs.Counting.{between}
 use Rattle.facts.proofs.Cases.{holds?}
 use Rattle.facts.proofs.Spans.{between-from, between-to}
 use Rattle.rows.specs.Rows.{may}
-use Rattle.member_rows.specs.Places.{Widened, MembersAt, MembersMarked}
+use Rattle.member_rows.specs.Places.{MembersAt, MembersMarked}
 use borrow.Fn.Kinds.{Dens, resT, endedOf}
 use contract.Lifetimes.{Lfts}
 use denote.Triple.Clauses.{AtExit}
@@ -30,3 +31,18 @@ rows-of-unique κs a r r′ s s′ w p q = rows-same (w .0 .who) _ r r′ (p (w 
 pub widened-unique : (κs : Lfts 1) (a : Dens κs widened-kinds.ps) (r r′ : resT widened-kinds.r κs .Denot) (s s′ : AtExit (endedOf 1 widened-kinds.ps widened-kinds.r) κs)
     → widened-reads.Post κs a r s → widened-reads.Post κs a r′ s′ → r ≡ r′
 widened-unique κs a r r′ s s′ p q = ext-getD (pos 0) r r′ (p .size ∙ sym (q .size)) (λ e l. p .same e ∙ sym (q .same e))
+
+-- the rows of the list's elements, in two ways
+marked-same : {before t places : List ℕ} {first end : ℕ} {xs : List ℤ} {rows rows′ : List ℕ} → MembersAt t places end → MembersMarked before t places first end xs rows → MembersMarked before t places first end xs rows′
+    → (m e : ℕ) → e < length xs → may rows m e ≡ may rows′ m e
+marked-same {first = first} {end = end} w p q m e l = ⊎-elim
+    (λ (b : between first end m ≡ true).
+    let low = between-from first end m b in
+    let high = between-to first end m b in
+    p .self (w .who) (w .stands) m e low high l ∙ sym (q .self (w .who) (w .stands) m e low high l))
+    (λ (b : between first end m ≡ false). p .other m e b ∙ sym (q .other m e b))
+    (holds? (between first end m))
+
+pub mark-members-unique : (κs : Lfts 5) (a : Dens κs mark-members-kinds.ps) (r r′ : resT mark-members-kinds.r κs .Denot) (s s′ : AtExit (endedOf 5 mark-members-kinds.ps mark-members-kinds.r) κs)
+    → mark-members.Pre κs a → mark-members.Post κs a r s → mark-members.Post κs a r′ s′ → (m e : ℕ) → e < length (a .1 .1 .1 .1 .1 .0 .now) → may (s .0 .now) m e ≡ may (s′ .0 .now) m e
+mark-members-unique κs a r r′ s s′ w p q = marked-same (w .1) p q

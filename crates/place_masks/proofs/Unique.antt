@@ -24,6 +24,8 @@ use Rattle.place_masks.proofs.lowest_place.Reads as lowest-place-reads
 use Rattle.place_masks.proofs.lowest_place.Kinds as lowest-place-kinds
 use Rattle.place_masks.proofs.highest_place.Reads as highest-place-reads
 use Rattle.place_masks.proofs.highest_place.Kinds as highest-place-kinds
+use Rattle.place_masks.proofs.moved_up.Reads as moved-up-reads
+use Rattle.place_masks.proofs.moved_up.Kinds as moved-up-kinds
 use Rattle.place_masks.proofs.before_spares.Reads as before-spares-reads
 use Rattle.place_masks.proofs.before_spares.Kinds as before-spares-kinds
 use Rattle.place_masks.proofs.after_spares.Reads as after-spares-reads
@@ -73,6 +75,10 @@ lowest-place-unique κs a r r' s s' p q = least-same (a .0) r r' p q
 pub highest-place-unique : (κs : Lfts 0) (a : Dens κs highest-place-kinds.ps) (r r' : resT highest-place-kinds.r κs .Denot) (s s' : AtExit (endedOf 0 highest-place-kinds.ps highest-place-kinds.r) κs)
     → highest-place-reads.Post κs a r s → highest-place-reads.Post κs a r' s' → r ≡ r'
 highest-place-unique κs a r r' s s' p q = greatest-same (a .0) r r' p q
+
+pub moved-up-unique : (κs : Lfts 0) (a : Dens κs moved-up-kinds.ps) (r r' : resT moved-up-kinds.r κs .Denot) (s s' : AtExit (endedOf 0 moved-up-kinds.ps moved-up-kinds.r) κs)
+    → moved-up-reads.Post κs a r s → moved-up-reads.Post κs a r' s' → r ≡ r'
+moved-up-unique κs a r r' s s' p q = bits-same r r' (λ e. p e ∙ sym (q e))
 
 pub before-spares-unique : (κs : Lfts 0) (a : Dens κs before-spares-kinds.ps) (r r' : resT before-spares-kinds.r κs .Denot) (s s' : AtExit (endedOf 0 before-spares-kinds.ps before-spares-kinds.r) κs)
     → before-spares-reads.Post κs a r s → before-spares-reads.Post κs a r' s' → r ≡ r'

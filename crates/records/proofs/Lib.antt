@@ -1,7 +1,9 @@
 -- What the proofs of several functions use.
--- Blocks == one block more in front, of each kind
--- PlainCuts == cuts by plain blocks
--- Loop   == all blocks, from the last to the first
+-- Blocks    == one block more in front, of each kind
+-- PlainCuts == cuts by plain blocks, element by element
+-- Loop      == all blocks, from the last to the first
+-- Unique    == the promise allows one result only
 mod Blocks
 mod PlainCuts
 mod Loop
+pub mod Unique

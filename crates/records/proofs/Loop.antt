@@ -20,7 +20,8 @@ use Rattle.blocks.proofs.LentBlocks.{lent, cuts-lent}
 use Rattle.grammar.specs.Element.{Elem}
 use Rattle.grammar.specs.Leaf.{Leaf}
 use Rattle.places.specs.Ways.{Ways, Way, Back, Low, Agrees}
-use Rattle.places.proofs.LentPlaces.{lent-end, lent-back, lent-never, none-best}
+use Rattle.places.proofs.LentPlaces.{lent-end, lent-back, lent-never}
+use Rattle.blocks.proofs.FirstLists.{none-best}
 use Rattle.plain.specs.Plain.{Plain}
 use Rattle.fronts.specs.Given.{Told, Prepares}
 use Rattle.records.specs.Records.{pairOf, Below, Sound, Before}

@@ -20,7 +20,7 @@ use Rattle.plain.specs.Plain.{Plain, upFrom}
 use Rattle.plain.proofs.UpFrom.{up-take}
 use Rattle.plain.proofs.PlainCuts.{plain-cuts, cuts-plain}
 use Rattle.blocks.proofs.OneMember.{one-taken, taken-one}
-use Rattle.places.proofs.LentPlaces.{none-best}
+use Rattle.blocks.proofs.FirstLists.{none-best}
 use Rattle.records.specs.Records.{pairOf}
 
 -- ---- the loop over the elements

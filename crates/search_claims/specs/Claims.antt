@@ -6,12 +6,12 @@
 -- Unique    <-> the promise allows one answer
 -- Explained <-> none is found exactly where a group of members may take too few elements
 -- Tested    <-> `Assigns` and the test `assigns` say the same
--- UniqueCut     <-> the promise of `first_cut` allows one answer, every byte included
+-- UniqueCut     <-> the promise of a first cut allows one answer, every byte included
 -- UniqueFilling <-> the same of `first_filling`
--- CutPasses     <-> the cut that `first_cut` finds passes `cut_passes`
--- CutFound      <-> where some list passes `cut_passes`, `first_cut` finds a cut, and the list does not come before it
--- FillingPasses <-> the filling that `first_filling` finds passes `filling_passes`
--- FillingFound  <-> where some list passes `filling_passes`, `first_filling` finds a filling, and the list does not come before it
+-- CutPasses     <-> the cut that is found passes the test of a cut
+-- CutFound      <-> where some list passes the test of a cut, one is found, and the list does not come before it
+-- FillingPasses <-> the filling that `first_filling` finds passes the test of a filling
+-- FillingFound  <-> where some list passes the test of a filling, one is found, and the list does not come before it
 -- NothingChanges <-> "no answer or witness changes" (document 02, Four): where rows by member and rows by element say the same of every pair, what they promise
 --   is the same, the cut and the filling that are found, byte for byte, and whether an offered list passes
 -- ColumnsOf es xs cols <-> bit e of the row of m says whether member m of es matches element e of xs; every other bit is clear: rows by member

@@ -17,7 +17,7 @@ use Rattle.byte_order.specs.ByteOrder.{First}
 use Rattle.blocks.specs.Assignment.{Assigns}
 use Rattle.blocks.specs.declared.Block.{Block}
 use Rattle.blocks.specs.Pieces.{Takes, Cuts, Fills, Best, Cutting, Filling}
-use Rattle.blocks.proofs.FirstLists.{best-same}
+use Rattle.blocks.proofs.FirstLists.{best-same, none-best}
 use Rattle.assign.specs.Answer.{Answer}
 use Rattle.rows.specs.Rows.{may}
 use Rattle.grammar.specs.Element.{Elem}
@@ -27,7 +27,6 @@ use Rattle.grammar.specs.Members.{memberHits}
 use Rattle.member_rows.specs.Contract.{RowsOf}
 use Rattle.places.specs.Ways.{Agrees}
 use Rattle.places.proofs.Backward.{takes-agree, agrees-turn}
-use Rattle.places.proofs.LentPlaces.{none-best}
 use Rattle.records.specs.Records.{pairOf, Below}
 
 -- ---- a cut by one block is what the block takes
