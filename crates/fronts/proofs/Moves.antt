@@ -24,7 +24,8 @@ use Rattle.blocks.proofs.Assignments.{takes-inv}
 use Rattle.assign.specs.Splice.{Spliced}
 use Rattle.places.specs.Ways.{Low, Agrees}
 use Rattle.places.specs.Bytes.{Lone, Held, AfterLast}
-use Rattle.places.proofs.Backward.{agrees-turn, takes-agree, leads-agree, spares-taken}
+use Rattle.places.proofs.Backward.{agrees-turn, takes-agree, leads-agree}
+use Rattle.blocks.proofs.SpareBlocks.{spares-taken, spares-only}
 use Rattle.blocks.proofs.OneMember.{one-parts, one-taken, taken-one}
 use Rattle.places.proofs.Windows.{lone-before, lone-order, placed, placed-slice, held-placed}
 use Rattle.fronts.specs.Fronts.{Step, Leading, Standing, Moved}
@@ -58,19 +59,6 @@ module _ {may may' : ℕ → ℕ → Bool} {b : Block} {n ends : ℕ} (a : Agree
 
 -- ---- a block with no members
 -- every piece is 255 throughout
-spares-only : {may : ℕ → ℕ → Bool} {b : Block} {from to : ℕ} {v : List ℕ} → b .k ≡ 0 → Takes may b from to v → v ≡ replicate (to - from) 255
-spares-only {may} {b} {from} {to} {v} z t =
-    let n = t .assigned .size in
-    let m = length-replicate {A = ℕ} (to - from) 255 in
-    ext-getD 0 v (replicate (to - from) 255) (omega arith) (λ i l. ⊎-elim
-    (λ (q : getD v i 0 ≡ 255). q)
-    (λ (q : (between (b .first) (b .first + b .k) (getD v i 0) ≡ true) × (may (getD v i 0) (from + i) ≡ true)).
-    let x = between-from (b .first) (b .first + b .k) (getD v i 0) (q .0) in
-    let y = between-to (b .first) (b .first + b .k) (getD v i 0) (q .0) in
-    absurd (omega arith))
-    (takes-inv may (b .first) (b .k) (from + i) (getD v i 0) (t .assigned .right i l))
-    ∙ sym (getD-replicate {A = ℕ} (to - from) i 255 0 (omega arith)))
-
 module _ {may : ℕ → ℕ → Bool} {b : Block} {ends Q l : ℕ} (next spread : ℕ) (z : b .k ≡ 0) (low : Low ends 32) (lead : Leading may b ends Q) (after : (q : ℕ) → bit Q q ≡ true → l ≤ q)
     (s : After Q (b .min) (b .max) spread) (is : (e : ℕ) → bit next e ≡ (bit spread e && bit ends e)) where
   star-behind : (e : ℕ) → bit next e ≡ true → Behind Q (b .min) (b .max) e

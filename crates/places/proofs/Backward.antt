@@ -20,6 +20,7 @@ use Rattle.blocks.specs.Pieces.{Takes, Cuts, isOne}
 use Rattle.blocks.proofs.Assignments.{takes-spare, takes-member, takes-inv, assigns-rows}
 use Rattle.blocks.proofs.Cutting.{cuts-order}
 use Rattle.blocks.proofs.OneMember.{one-taken, taken-one}
+use Rattle.blocks.proofs.SpareBlocks.{spares-taken}
 use Rattle.places.specs.Ways.{Ways, Low, Leads, Back, Agrees}
 
 -- ---- the places are those of the list
@@ -81,19 +82,6 @@ pub back-agree : {may may' : ℕ → ℕ → Bool} {b : Block} {n good r : ℕ} 
 back-agree a low f = record { some = λ p h. leads-agree a low (f .some p h); all = λ p l. f .all p (leads-agree (agrees-turn a) low l) }
 
 -- ---- a block with no members
-pub spares-taken : (may : ℕ → ℕ → Bool) (b : Block) (from to : ℕ) → b .k ≡ 0 → from ≤ to → from + b .min ≤ to → to ≤ from + b .max → Takes may b from to (replicate (to - from) 255)
-spares-taken may b from to z o enough few =
-    let n = length-replicate {A = ℕ} (to - from) 255 in
-    record {
-      assigned = record {
-        size = n;
-        right = λ i l. takes-spare may (b .first) (b .k) (from + i) (getD (replicate (to - from) 255) i 0) (getD-replicate {A = ℕ} (to - from) i 255 0 (omega arith));
-        once = λ m f t. absurd (omega arith);
-      };
-      enough = omega arith;
-      few = omega arith;
-    }
-
 pub back-spares : (may : ℕ → ℕ → Bool) (b : Block) {good r : ℕ} → b .k ≡ 0 → Before good (b .min) (b .max) r → Back may b good r
 back-spares may b {good} {r} z f = record {
   some = λ p h.

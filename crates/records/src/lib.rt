@@ -32,6 +32,9 @@ use place_masks::before_spares;
 use places::before_group;
 use places::before_one;
 use plain::is_plain;
+use runs::join_runs;
+
+mod runs; // runs of 20s as one 20
 
 // The places from which b leads to a good one. The rows get the members of a group.
 fn before_block(
@@ -93,8 +96,8 @@ fn plain_first(t: &[u8], places: &[u16; 32], members: usize, count: usize, list:
     Found { found: true, w: w }
 }
 
-// The first cut of the list in byte order by the first `count` blocks.
-pub fn first_in_record(
+// The first cut of the list in byte order by the first `count` blocks, by the places from which they go on.
+fn first_by_places(
     t: &[u8],
     places: &[u16; 32],
     members: usize,
@@ -105,9 +108,6 @@ pub fn first_in_record(
     requires { ⌜ MembersAt (now t) (now places) members × (count ≤ 32) × (length (now list) ≤ 32) × Below members (blocksIn (take count (now blocks))) ⌝ }
     ensures { λ r. ⌜ ((es : List (Elem Leaf)) → Standing (now (t .entry)) es (take members (now (places .entry))) → Cutting (pairOf es (now (list .entry))) (blocksIn (take count (now (blocks .entry)))) (length (now (list .entry))) (r .found) (r .w)) ⌝ }
 {
-    if is_plain(blocks, count) {
-        return plain_first(t, places, members, count, list);
-    }
     let n = list.len();
     let wide = widened(list);
     let mut rows: [u32; 32] = [0; 32];
@@ -129,4 +129,24 @@ pub fn first_in_record(
     }
     let w = first_cut_from(&rows, blocks, count, &ends, n as u8);
     Found { found: true, w: w }
+}
+
+// The first cut of the list in byte order by the first `count` blocks.
+pub fn first_in_record(
+    t: &[u8],
+    places: &[u16; 32],
+    members: usize,
+    blocks: &[u32; 32],
+    count: usize,
+    list: &[i32],
+) -> Found
+    requires { ⌜ MembersAt (now t) (now places) members × (count ≤ 32) × (length (now list) ≤ 32) × Below members (blocksIn (take count (now blocks))) ⌝ }
+    ensures { λ r. ⌜ ((es : List (Elem Leaf)) → Standing (now (t .entry)) es (take members (now (places .entry))) → Cutting (pairOf es (now (list .entry))) (blocksIn (take count (now (blocks .entry)))) (length (now (list .entry))) (r .found) (r .w)) ⌝ }
+{
+    if is_plain(blocks, count) {
+        return plain_first(t, places, members, count, list);
+    }
+    let mut joined: [u32; 32] = [0; 32];
+    let many = join_runs(blocks, count, &mut joined);
+    first_by_places(t, places, members, &joined, many, list)
 }

@@ -1,140 +1,38 @@
--- `first_in_record` meets its contract. The loop: the places from which the blocks from j on go on, and the rows of the groups among them. Assumes nothing.
+-- `first_in_record` meets its contract: a plain record by its elements, any other by its blocks, with each run of 20s as one. Assumes nothing.
+use mathlib.Core.Path.{refl}
 use native.Mathlib.Omega.{arith}
-use Rattle.records.specs.Records.{pairOf}
-use mathlib.Core.Path.{_≡_, refl, sym, ap, _∙_, subst}
-use mathlib.Core.List.{List}
-use Prim.Native.Nat.{ℕ, _-_, _≤_, _<_}
-use lib.ListN.{length, take, length-set}
-use borrow.Author.Tests.{not-true, not-false}
 use borrow.Author.Needs.{needs}
-use Rattle.grammar.specs.Element.{Elem}
-use Rattle.grammar.specs.Leaf.{Leaf}
-use Rattle.grammar.specs.Blocks.{Standing}
-use Rattle.places.proofs.Backward.{ways-low}
-use Rattle.records.proofs.Loop.{Going, going-start, going-step, below-at, below-inside, plain-few, prepares, no-cut}
+use Rattle.blocks.proofs.FirstLists.{best-same}
+use Rattle.records.proofs.Loop.{plain-few}
 use Rattle.records.proofs.first_in_record.Statement.{statement}
 use Rattle.records.proofs.first_in_record.Tie as tie
 
-abbrev Inv-loop : tie.InvT-loop
-Inv-loop t places members blocks count list n wide rows₀ ends₀ good₀ j₀ rows ends good j = ((es : List (Elem Leaf)) → Standing t es (take members places) → Going es list count blocks j good ends rows) × (length ends ≡ 32) × (j ≤ count)
-
-abbrev μ-loop : tie.MeasureT-loop
-μ-loop t places members blocks count list n wide rows₀ ends₀ good₀ j₀ rows ends good j = j
-
-is-plain-requires : tie.Need-is-plain-requires Inv-loop μ-loop
+is-plain-requires : tie.Need-is-plain-requires
 is-plain-requires c κs = search needs
 
-plain-first-requires : tie.Need-plain-first-requires Inv-loop μ-loop
+plain-first-requires : tie.Need-plain-first-requires
 plain-first-requires c κs =
     let start = c .before .before .before in
     let p = start .pre in
     (p .0, plain-few _ _ _ (c .before .is-plain .ensures .passed (c .if1 .taken)) (p .3), p .2)
 
-returns : tie.Need-returns Inv-loop μ-loop
+returns : tie.Need-returns
 returns c = λ es s. c .plain-first .ensures es _ s (c .before .before .is-plain .ensures .passed (c .before .if1 .taken))
 
-widened-requires : tie.Need-widened-requires Inv-loop μ-loop
-widened-requires c κs = c .before .before .before .pre .2
+join-runs-requires : tie.Need-join-runs-requires
+join-runs-requires c κs = (c .before .before .before .before .pre .1, refl)
 
-with-place-requires : tie.Need-with-place-requires Inv-loop μ-loop
-with-place-requires c κs = omega (arith, c .before .before .before .before .pre .2)
+first-by-places-requires : tie.Need-first-by-places-requires
+first-by-places-requires c κs =
+    let p = c .before .before .before .before .before .before .pre in
+    let j = c .before .join-runs .ensures _ (p .3) in
+    (p .0, j .few, p .2, j .below)
 
-loop-holds : tie.Need-loop-holds Inv-loop μ-loop
-loop-holds c = (λ es s. going-start es _ _ _ _ (c .with-place .ensures), refl, omega arith)
-
-sub-j : tie.Need-sub-j Inv-loop μ-loop
-sub-j c = c .loop-test .taken
-
-mul-ends : tie.Need-mul-ends Inv-loop μ-loop
-mul-ends c = let L = c .before in omega (arith, c .loop-test .taken, L .loop .inv .2, L .before .before .before .before .before .before .pre .1)
-
-array-write-ends : tie.Need-array-write-ends Inv-loop μ-loop
-array-write-ends c = let L = c .before in omega (arith, c .loop-test .taken, L .loop .inv .2, L .before .before .before .before .before .before .pre .1)
-
-block-at-requires : tie.Need-block-at-requires Inv-loop μ-loop
-block-at-requires c κs = let L = c .before in omega (arith, c .loop-test .taken, L .loop .inv .2, L .before .before .before .before .before .before .pre .1)
-
-before-block-requires : tie.Need-before-block-requires Inv-loop μ-loop
-before-block-requires c κs =
-    let L = c .before .before .before .before in
-    let start = L .before .before .before .before .before .before in
-    let p = start .pre in
-    let w = p .0 in
-    let g = L .loop .inv .0 (w .who) (w .stands) in
-    let low = c .before .before .before .loop-test .taken in
-    let i = L .loop .j - 1 in
-    let inside : i < start .args .count = omega (arith, low, L .loop .inv .2) in
-    (w, p .2, L .before .before .widened .ensures, g .size, rw (c .before .before .block-at .ensures) (below-at _ _ _ i inside (p .3)), ways-low (g .ways))
-
-loop-less : tie.Need-loop-less Inv-loop μ-loop
-loop-less c = omega (arith, c .before .before .before .before .loop-test .taken)
-
-loop-again : tie.Need-loop-again Inv-loop μ-loop
-loop-again c =
-    let L = c .before .before .before .before .before in
-    let p = L .before .before .before .before .before .before .pre in
-    let low = c .before .before .before .before .loop-test .taken in
-    let i = L .loop .inv in (
-      λ es s. going-step es _ _ _ _ _ _ _ _ (i .0 es s) _ (c .before .before .before .block-at .ensures) (omega (arith, low)) (i .2) (i .1) (p .1) _ _ (c .before-block .ensures es s),
-      length-set (L .loop .ends) (L .loop .j - 1) (L .loop .good) ∙ i .1,
-      omega (arith, i .2),
-    )
-
-has-place-requires : tie.Need-has-place-requires Inv-loop μ-loop
-has-place-requires c κs = omega arith
-
--- all blocks are gone through
-all-gone : (c : tie.After-loop Inv-loop μ-loop) → let start = c .before .before .before .before .before .before .before in
-    (es : List (Elem Leaf)) → Standing (start .args .t .now) es (take (start .args .members) (start .args .places .now)) → Going es (start .args .list .now) (start .args .count) (start .args .blocks .now) 0 (c .before .loop .good) (c .before .loop .ends) (c .before .loop .rows)
-all-gone c es s =
-    let start = c .before .before .before .before .before .before .before in
-    let z : c .before .loop .j ≡ 0 = omega (arith, c .loop-test .left) in
-    subst (λ (x : ℕ). Going es (start .args .list .now) (start .args .count) (start .args .blocks .now) x (c .before .loop .good) (c .before .loop .ends) (c .before .loop .rows)) z (c .before .loop .inv .0 es s)
-
-returns-2 : tie.Need-returns-2 Inv-loop μ-loop
+returns-2 : tie.Need-returns-2
 returns-2 c =
-    let gone = c .before .before in
-    λ es s. no-cut es _ _ _ _ _ _ (all-gone gone es s) (sym (c .before .has-place .ensures) ∙ not-true _ (c .if2 .taken)) _ refl
-
-cast-first-cut-from : tie.Need-cast-first-cut-from Inv-loop μ-loop
-cast-first-cut-from c = omega (arith, c .before .before .before .before .before .before .before .before .before .before .before .pre .2)
-
-first-cut-from-requires : tie.Need-first-cut-from-requires Inv-loop μ-loop
-first-cut-from-requires c κs =
-    let there = c .before .before in
-    let gone = there .before .before in
-    let start = gone .before .before .before .before .before .before .before in
-    let p = start .pre in
-    let w = p .0 in
-    (p .1, p .2, below-inside _ _ (w .few) (p .3), record { may = pairOf (w .who) (start .args .list .now); prepares = prepares (w .who) _ _ _ _ _ _ (all-gone gone (w .who) (w .stands)) (sym (there .before .has-place .ensures) ∙ not-false _ (there .if2 .left)) })
-
-returns-3 : tie.Need-returns-3 Inv-loop μ-loop
-returns-3 c =
-    let there = c .before .before .before in
-    let gone = there .before .before in
-    λ es s. c .first-cut-from .ensures _ (prepares es _ _ _ _ _ _ (all-gone gone es s) (sym (there .before .has-place .ensures) ∙ not-false _ (there .if2 .left)))
+    let p = c .before .before .before .before .before .before .before .pre in
+    let same = c .before .before .join-runs .ensures _ (p .3) .same in
+    λ es s. best-same (λ v h. same .back _ _ _ v (p .2) h) (λ v h. same .there _ _ _ v (p .2) h) (c .first-by-places .ensures es s)
 
 pub first-in-record-spec : {M : Type 1} → statement M
-first-in-record-spec =
-    tie.close
-    (tie.spec
-    Inv-loop
-    μ-loop
-    is-plain-requires
-    plain-first-requires
-    returns
-    widened-requires
-    with-place-requires
-    loop-holds
-    sub-j
-    mul-ends
-    array-write-ends
-    block-at-requires
-    before-block-requires
-    loop-less
-    loop-again
-    has-place-requires
-    returns-2
-    cast-first-cut-from
-    first-cut-from-requires
-    returns-3)
+first-in-record-spec = tie.close (tie.spec is-plain-requires plain-first-requires returns join-runs-requires first-by-places-requires returns-2)
