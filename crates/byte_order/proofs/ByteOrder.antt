@@ -1,32 +1,24 @@
 -- Laws of byte order and of firsts, for the crates above. Assumes nothing.
 -- earlier is a strict total order on lists of bytes: earlier-irreflexive, earlier-transitive, earlier-asymmetric, earlier-total.
 -- It looks at the left parts first where they are of one length: earlier-append-same, earlier-append-left, earlier-append-not.
--- The first is unique (first-unique); firsts of sets that are the same are the same (first-same); the first of a concatenation of
--- pieces, the left ones of one length, is the concatenation of the firsts (first-joins, none-joins-left, none-joins-right); the first of a union is
--- the lesser of the firsts (first-union), or the first of the one that has any (first-union-left, first-union-right); the first n bytes
--- of the first are the first of the first n bytes (first-starts).
-use mathlib.Core.Path.{_≡_, refl, sym, ap, ap₂, _∙_, subst}
+-- The first is unique (first-unique); firsts of sets that are the same are the same (first-same).
+use mathlib.Core.Path.{_≡_, refl, sym, ap, ap₂, _∙_}
 use mathlib.Core.Logic.{_⊎_, inl, inr, ⊎-elim}
-use mathlib.Core.Bool.{Bool, true, false, _&&_, _||_}
+use mathlib.Core.Bool.{true, false, _&&_, _||_}
 use mathlib.Core.List.{List, [], _∷_, _++_}
 use Prim.Native.Nat.{ℕ, zero, suc, _+_, _≤_, _<_, suc-le-suc}
 use native.Mathlib.Nat.{not-suc-le-zero}
 use native.Mathlib.Omega.{arith}
 use lib.Dec.{eqb, ltb}
-use lib.ListN.{length, getD, take, drop, take-append-drop}
-use lib.Seq.{length-take-le}
-use borrow.Author.Tests.{eq-eqb, ne-eqb, lt-ltb, le-ltb, ltb-true, eqb-true}
-use Rattle.byte_order.specs.ByteOrder.{earlier, choose, lesser, First, Joins, Starts}
+use lib.ListN.{length, getD}
+use borrow.Author.Tests.{eq-eqb, lt-ltb, le-ltb, ltb-true, eqb-true}
+use Rattle.byte_order.specs.ByteOrder.{earlier, First}
 use Rattle.facts.proofs.Cases.{below, holds?, clash, not-so, one-of, and-left, and-right}
 
 -- ---- the heads decide, or the tails do
 head-less : (x y : ℕ) (xs ys : List ℕ) → x < y → earlier (x ∷ xs) (y ∷ ys) ≡ true
 unfolding earlier
 head-less x y xs ys l = ap (λ t. t || (eqb x y && earlier xs ys)) (lt-ltb x y l)
-
-head-more : (x y : ℕ) (xs ys : List ℕ) → y < x → earlier (x ∷ xs) (y ∷ ys) ≡ false
-unfolding earlier
-head-more x y xs ys l = ap₂ (λ t u. t || (u && earlier xs ys)) (le-ltb x y (omega arith)) (ne-eqb x y (λ q. omega arith))
 
 pub head-same : (x y : ℕ) (xs ys : List ℕ) → x ≡ y → earlier (x ∷ xs) (y ∷ ys) ≡ earlier xs ys
 unfolding earlier
@@ -123,47 +115,3 @@ first-unique {v} {w} p q = earlier-total v w (q .least v (p .holds)) (p .least w
 
 pub first-same : {P Q : List ℕ → Type 0} {w : List ℕ} → ((v : List ℕ) → P v → Q v) → ((v : List ℕ) → Q v → P v) → First P w → First Q w
 first-same {w} there back p = record { holds = there w (p .holds); least = λ v q. p .least v (back v q) }
-
-pub first-joins : {P Q : List ℕ → Type 0} {a b : List ℕ} (n : ℕ) → ((v : List ℕ) → P v → length v ≡ n) → First P a → First Q b → First (Joins P Q) (a ++ b)
-first-joins {a} {b} n long p q = record {
-  holds = record { left = a; right = b; whole = refl; onLeft = p .holds; onRight = q .holds };
-  least = λ v j. ap (λ l. earlier l (a ++ b)) (j .whole) ∙ earlier-append-not (j .left) a (j .right) b
-      (long (j .left) (j .onLeft) ∙ sym (long a (p .holds))) (p .least (j .left) (j .onLeft)) (q .least (j .right) (j .onRight));
-}
-
-pub first-starts : {P : List ℕ → Type 0} {w : List ℕ} (n : ℕ) → n ≤ length w → First P w → First (Starts P n) (take n w)
-first-starts {P} {w} n l p =
-    let split = take-append-drop n w in
-    let long = length-take-le n w l in
-    record {
-      holds = record { rest = drop n w; whole = subst P (sym split) (p .holds); size = long };
-      least = λ v s. not-so (earlier v (take n w)) (λ e.
-          let all = earlier-append-left v (take n w) (s .rest) (drop n w) (s .size ∙ sym long) e in
-          clash (subst (λ (x : List ℕ). earlier (v ++ s .rest) x ≡ true) split all) (p .least (v ++ s .rest) (s .whole)));
-    }
-
-pub none-joins-left : {P Q : List ℕ → Type 0} → ((v : List ℕ) → P v → ⊥) → (v : List ℕ) → Joins P Q v → ⊥
-none-joins-left never v j = never (j .left) (j .onLeft)
-
-pub none-joins-right : {P Q : List ℕ → Type 0} → ((v : List ℕ) → Q v → ⊥) → (v : List ℕ) → Joins P Q v → ⊥
-none-joins-right never v j = never (j .right) (j .onRight)
-
-pub first-union-left : {P Q : List ℕ → Type 0} {a : List ℕ} → First P a → ((v : List ℕ) → Q v → ⊥) → First (λ v. P v ⊎ Q v) a
-first-union-left {a} p never = record { holds = inl (p .holds); least = λ v. ⊎-elim (λ h. p .least v h) (λ h. absurd (never v h)) }
-
-pub first-union-right : {P Q : List ℕ → Type 0} {b : List ℕ} → ((v : List ℕ) → P v → ⊥) → First Q b → First (λ v. P v ⊎ Q v) b
-first-union-right {b} never q = record { holds = inr (q .holds); least = λ v. ⊎-elim (λ h. absurd (never v h)) (λ h. q .least v h) }
-
-pub first-union : {P Q : List ℕ → Type 0} {a b : List ℕ} → First P a → First Q b → First (λ v. P v ⊎ Q v) (lesser a b)
-unfolding choose
-first-union {P} {Q} {a} {b} p q = go (earlier b a) refl
-  where
-    go : (t : Bool) → earlier b a ≡ t → First (λ v. P v ⊎ Q v) (choose t b a)
-    go true e = record {
-      holds = inr (q .holds);
-      least = λ v. ⊎-elim (λ h. earlier-not-transitive b a v (earlier-asymmetric b a e) (p .least v h)) (λ h. q .least v h);
-    }
-    go false e = record {
-      holds = inl (p .holds);
-      least = λ v. ⊎-elim (λ h. p .least v h) (λ h. earlier-not-transitive a b v e (q .least v h));
-    }

@@ -1,30 +1,19 @@
 -- Byte order on lists of bytes, and the first list of a kind.
 -- earlier a b  == a comes before b: the smaller byte at the first place where the two differ; a list that ends there comes first
--- choose t b a == b where t holds, else a
--- lesser a b   == the one of a and b that comes first
 -- First P w   <-> P holds of w, and of no list that comes before w
 -- Joins P Q w <-> w is a list with P, followed by a list with Q
--- Starts P n w <-> w is the first n bytes of a list with P
 -- Assumes nothing.
 use mathlib.Core.Path.{_≡_}
 use mathlib.Core.Bool.{Bool, true, false, _&&_, _||_}
 use mathlib.Core.List.{List, [], _∷_, _++_}
 use Prim.Native.Nat.{ℕ}
 use lib.Dec.{eqb, ltb}
-use lib.ListN.{length}
 
 unfoldable pub earlier : List ℕ → List ℕ → Bool
 earlier [] [] = false
 earlier [] (y ∷ ys) = true
 earlier (x ∷ xs) [] = false
 earlier (x ∷ xs) (y ∷ ys) = ltb x y || (eqb x y && earlier xs ys)
-
-unfoldable pub choose : Bool → List ℕ → List ℕ → List ℕ
-choose true b a = b
-choose false b a = a
-
-abbrev pub lesser : List ℕ → List ℕ → List ℕ
-lesser a b = choose (earlier b a) b a
 
 pub record First (P : List ℕ → Type 0) (w : List ℕ) : Type 0 where
   pub holds : P w
@@ -36,8 +25,3 @@ pub record Joins (P Q : List ℕ → Type 0) (w : List ℕ) : Type 0 where
   pub whole : w ≡ left ++ right
   pub onLeft : P left
   pub onRight : Q right
-
-pub record Starts (P : List ℕ → Type 0) (n : ℕ) (w : List ℕ) : Type 0 where
-  pub rest : List ℕ
-  pub whole : P (w ++ rest)
-  pub size : length w ≡ n

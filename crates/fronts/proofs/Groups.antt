@@ -245,6 +245,3 @@ module _ {may : ℕ → ℕ → Bool} {b : Block} {ends Q l : ℕ} {g : List ℕ
         made = group-made;
         least = group-least;
       }
-
-  pub group-blank : (i : ℕ) → next ≤ i → i < 32 → getD g i 0 ≡ 255
-  group-blank i n h = lone-after group-lone i h n

@@ -1,5 +1,5 @@
 -- Assignments as 32 bytes: the members served one by one, and one exchange. Assumes nothing.
-use mathlib.Core.Path.{_≡_, refl, sym, ap, _∙_, subst}
+use mathlib.Core.Path.{_≡_, sym, ap, _∙_, subst}
 use mathlib.Core.Logic.{_⊎_, inl, inr, ⊎-elim}
 use mathlib.Core.Bool.{Bool, true, false, not, _&&_}
 use mathlib.Core.List.{List}
@@ -301,13 +301,6 @@ module _ {may : ℕ → ℕ → Bool} {first k from to : ℕ} {w : List ℕ} {e 
     module _ (held : getD w e 0 < 32) where
       owner-block : between first (first + k) (getD w e 0) ≡ true
       owner-block = fits-block may first k from to _ e (dealt-fits (ask .dealt) e (omega arith) (omega arith))
-
-      owner-left : cnt (getD w e 0) (swap w p e m) ≡ 0
-      owner-left =
-          let c = swap-cnt w p e m (ask .dealt .size) later low there (getD w e 0) (omega arith) in
-          let o = ask .dealt .once (getD w e 0) (between-from first (first + k) _ owner-block) (between-to first (first + k) _ owner-block) in
-          let n = hit (getD w e 0) (getD w e 0) refl in
-          omega arith
 
       -- its owner was served by a place after e
       pub exchange-served : {y : List ℕ} → Served (within may (e + 1) to) (swap w p e m) (getD w e 0) y → Tries may first k from to w e m y

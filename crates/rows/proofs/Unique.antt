@@ -10,16 +10,10 @@ use denote.Triple.Clauses.{AtExit}
 use Rattle.masks.proofs.Masks.{bits-same}
 use Rattle.rows.proofs.Rows.{row-picks}
 use Rattle.rows.specs.Columns.{Turned}
-use Rattle.rows.proofs.may_take.Reads as may-take-reads
-use Rattle.rows.proofs.may_take.Kinds as may-take-kinds
 use Rattle.rows.proofs.choices.Reads as choices-reads
 use Rattle.rows.proofs.choices.Kinds as choices-kinds
 use Rattle.rows.proofs.turned.Reads as turned-reads
 use Rattle.rows.proofs.turned.Kinds as turned-kinds
-
-pub may-take-unique : (κs : Lfts 1) (a : Dens κs may-take-kinds.ps) (r r' : resT may-take-kinds.r κs .Denot) (s s' : AtExit (endedOf 1 may-take-kinds.ps may-take-kinds.r) κs)
-    → may-take-reads.Post κs a r s → may-take-reads.Post κs a r' s' → r ≡ r'
-may-take-unique κs a r r' s s' p q = p ∙ sym q
 
 pub choices-unique : (κs : Lfts 1) (a : Dens κs choices-kinds.ps) (r r' : resT choices-kinds.r κs .Denot) (s s' : AtExit (endedOf 1 choices-kinds.ps choices-kinds.r) κs)
     → choices-reads.Post κs a r s → choices-reads.Post κs a r' s' → r ≡ r'

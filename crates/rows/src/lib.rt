@@ -3,21 +3,12 @@
 ghost use mathlib.Core.Path.{_≡_};
 ghost use Prim.Native.Nat.{ℕ, _+_, _<_, _≤_};
 ghost use Rattle.masks.specs.Masks.{bit};
-ghost use Rattle.rows.specs.Rows.{may, picks};
+ghost use Rattle.rows.specs.Rows.{picks};
 ghost use Rattle.rows.specs.Columns.{Turned, Piece, Spans};
 use exchange::transpose;
-use masks::has;
 use masks::span;
 
 mod exchange; // rows and columns exchanged
-
-// Whether member m may take element e.
-pub fn may_take(rows: &[u32; 32], m: u8, e: usize) -> bool
-    requires { ⌜ (m < 32) × (e < 32) ⌝ }
-    ensures { λ r. ⌜ r ≡ may (now (rows .entry)) m e ⌝ }
-{
-    has(rows[e], m)
-}
 
 // The elements that member m may take, by turned rows.
 pub fn choices(columns: &[u32; 32], m: u8) -> u32
