@@ -4,17 +4,17 @@ use mathlib.Core.Path.{_≡_, refl, sym, ap, _∙_}
 use mathlib.Core.Bool.{Bool, true, false, not, _||_, _&&_}
 use mathlib.Core.Logic.{⊎-elim}
 use mathlib.Core.List.{List}
-use Prim.Native.Nat.{ℕ, _<_}
+use Prim.Native.Nat.{ℕ}
 use lib.IntN.{ℤ, pos}
 use lib.Signed.{leZ}
-use lib.ListN.{length, getD}
+use lib.ListN.{getD}
 use Rattle.facts.proofs.Cases.{same?, clash}
 use Rattle.integers.specs.Integer.{Word}
 use Rattle.integers.proofs.SignedLocals.{again, again-same}
 use Rattle.masks.specs.Masks.{bit, Flipped}
 use Rattle.masks.proofs.Masks.{bit-none, odd}
 use Rattle.masks.proofs.OneByOne.{flipped-down, flipped-out}
-use Rattle.element_match.specs.Contract.{Tells, Missed}
+use Rattle.element_match.specs.Contract.{Missed}
 
 -- whether the element j lies between the bounds
 abbrev pub inside : List ℤ → ℤ → ℤ → ℕ → Bool

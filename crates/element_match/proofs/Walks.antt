@@ -1,7 +1,7 @@
 -- The walk over the members of a list or a complement, turn by turn: who is asked about, and missed by the members so far. The invariant: however
 -- the members were read, those still to come are the rest of them, and the mask has the asked elements that none of the others matches.
 -- Assumes nothing.
-use mathlib.Core.Path.{_≡_, refl, sym, ap, _∙_, subst}
+use mathlib.Core.Path.{_≡_, refl, sym, ap, _∙_}
 use mathlib.Core.Bool.{Bool, true, false, not, _||_, _&&_, cond, or-false, Bool·not-not}
 use mathlib.Core.Logic.{⊎-elim}
 use mathlib.Core.List.{List}

@@ -6,21 +6,18 @@ use mathlib.Core.List.{List, [], _∷_, _++_, append-nil}
 use Prim.Native.Nat.{ℕ, _+_, _-_, _≤_, _<_}
 use native.Mathlib.Omega.{arith}
 use lib.Dec.{leb}
-use lib.ListN.{length, getD, set, take, replicate, length-append, length-take, length-set, length-replicate, getD-replicate, replicate-append-replicate, List·getD-append}
+use lib.ListN.{length, getD, set, take, replicate, length-append, length-take, length-set, replicate-append-replicate, List·getD-append}
 use lib.Seq.{slice, length-slice, getD-take, getD-append-add, getD-set-same, getD-set-other, ext-getD}
 use borrow.Author.Tests.{le-leb, leb-true}
 use Rattle.masks.specs.Masks.{bit, Plus}
 use Rattle.masks.proofs.Masks.{bit-none}
-use Rattle.facts.specs.Counting.{between}
 use Rattle.facts.proofs.Cases.{same?, below, clash, and-left, and-right, both}
-use Rattle.facts.proofs.Spans.{between-from, between-to}
 use Rattle.facts.proofs.Slices.{slice-at}
 use Rattle.byte_order.specs.ByteOrder.{earlier}
 use Rattle.byte_order.proofs.ByteOrder.{earlier-irreflexive}
 use Rattle.place_masks.specs.Places.{Least, Behind, After}
 use Rattle.blocks.specs.declared.Block.{Block}
 use Rattle.blocks.specs.Pieces.{Takes, isOne}
-use Rattle.blocks.proofs.Assignments.{takes-inv}
 use Rattle.assign.specs.Splice.{Spliced}
 use Rattle.places.specs.Ways.{Low, Agrees}
 use Rattle.places.specs.Bytes.{Lone, Held, AfterLast}

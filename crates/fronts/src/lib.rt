@@ -5,7 +5,6 @@ ghost use Prim.Native.Nat.{ℕ, _+_, _≤_, _<_};
 ghost use lib.ListN.{length, take};
 ghost use mathlib.Core.List.{List};
 ghost use Rattle.assign.specs.Splice.{Spliced};
-ghost use Rattle.masks.specs.Masks.{bit};
 ghost use Rattle.rows.specs.Rows.{may as mayRows};
 ghost use Rattle.blocks.specs.Numbers.{blocksIn};
 ghost use Rattle.blocks.specs.Pieces.{Inside, Cutting, isOne};

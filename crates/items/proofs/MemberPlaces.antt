@@ -2,9 +2,9 @@
 -- noted-as == the same of an equal reading; stopped-as, stopped-on == a refusal, as an answer says it, whatever is to be said of it
 -- map-noted == the same scan, of what was read in another form; noted-told == the same told in another way
 -- placed-none, placed-one, placed-then == no member, one member, more members after others; placed-from == after others that stand there as well
-use mathlib.Core.Path.{_≡_, refl, sym, ap, _∙_, subst}
+use mathlib.Core.Path.{_≡_, sym, ap, _∙_, subst}
 use mathlib.Core.List.{List, [], _∷_, _++_, append-assoc, append-nil}
-use Prim.Native.Nat.{ℕ, suc, _+_, _≤_, _<_}
+use Prim.Native.Nat.{ℕ, suc, _+_, _<_}
 use native.Mathlib.Omega.{arith}
 use lib.ListN.{length, drop, take, set, length-append}
 use lib.Seq.{take-suc-set}

@@ -1,6 +1,6 @@
 -- What a block with no members takes of an offered list: spare elements. Assumes nothing.
 use mathlib.Core.Path.{_≡_, refl, sym, ap, _∙_, subst}
-use mathlib.Core.Bool.{Bool, true, false, _||_, _&&_}
+use mathlib.Core.Bool.{true, _||_, _&&_}
 use mathlib.Core.Logic.{⊎-elim}
 use mathlib.Core.List.{List}
 use Prim.Native.Nat.{ℕ, zero, suc, _+_, _-_, _≤_, _<_}
@@ -10,16 +10,15 @@ use lib.ListN.{length, getD, List·getD-eq-default}
 use lib.Seq.{slice, length-slice}
 use borrow.Author.Tests.{le-leb, lt-ltb, leb-true}
 use Rattle.facts.specs.Counting.{between}
-use Rattle.facts.proofs.Cases.{same?, below, clash, holds?, and-left, and-right, one-of, or-left, or-right}
+use Rattle.facts.proofs.Cases.{same?, below, clash, and-left, and-right, one-of, or-left, or-right}
 use Rattle.facts.proofs.Spans.{between-from, between-to}
 use Rattle.facts.proofs.Slices.{slice-at}
 use Rattle.masks.specs.Masks.{bit, Plus}
 use Rattle.masks.proofs.Masks.{bit-none}
-use Rattle.blocks.specs.Assignment.{takes}
 use Rattle.blocks.specs.declared.Block.{Block}
 use Rattle.blocks.specs.Pieces.{Takes}
 use Rattle.blocks.proofs.Assignments.{takes-inv, takes-spare}
-use Rattle.judging.specs.Reach.{anyPair, SparesOf, OneOn, Blank, Spared, Along, Begun, Extended}
+use Rattle.judging.specs.Reach.{anyPair, SparesOf, OneOn, Blank, Along, Extended}
 
 -- ---- the elements that are spare
 

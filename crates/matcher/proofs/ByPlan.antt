@@ -5,21 +5,20 @@
 -- unmet-none: a length that is not met leaves no assignment.
 use mathlib.Core.Path.{_≡_, refl, sym, ap, _∙_}
 use mathlib.Core.Bool.{Bool, true, false, _&&_}
-use mathlib.Core.Logic.{⊎-elim}
 use mathlib.Core.List.{List, [], _∷_}
-use Prim.Native.Nat.{ℕ, zero, suc, _+_, _≤_, _<_}
+use Prim.Native.Nat.{ℕ, suc, _+_, _≤_, _<_}
 use native.Mathlib.Omega.{arith}
 use native.Mathlib.Nat.{zero-add}
 use borrow.Author.Tests.{le-leb, ltb-false}
 use lib.Dec.{leb, ltb}
 use lib.ListN.{length, getD, take}
 use lib.IntN.{ℤ, pos}
-use Rattle.facts.proofs.Cases.{below, and-right, both, clash, holds?, by-test}
+use Rattle.facts.proofs.Cases.{and-right, both, clash, by-test}
 use Rattle.blocks.specs.declared.Block.{Block}
 use Rattle.blocks.specs.Numbers.{blockIn, blocksIn}
 use Rattle.obeying.proofs.Bodies.{first-block}
-use Rattle.blocks.specs.Pieces.{Inside, Best, Passing}
-use Rattle.blocks.proofs.FirstLists.{best-same, passing-same, passing-holds}
+use Rattle.blocks.specs.Pieces.{Inside, Best}
+use Rattle.blocks.proofs.FirstLists.{best-same}
 use Rattle.grammar.specs.Element.{Elem}
 use Rattle.grammar.specs.Leaf.{Leaf, leafHead}
 use Rattle.grammar.specs.Template.{Item, grouped, one, spares, permutation, Body, recordOf, setOf, superset, subset, Length, anyLength, between, Template, template, membersOfGroup, membersOfItem, membersOfItems, membersOf}
@@ -31,7 +30,7 @@ use Rattle.grammar.specs.Blocks.{blockOfGroup, blockOfItem, blocksOfItems, bloc
 use Rattle.plans.specs.declared.Plan.{Plan}
 use Rattle.plans.specs.Plans.{Planned, PlanOf, refusedPlan, aPlan}
 use Rattle.member_rows.specs.Places.{MembersAt}
-use Rattle.matching.specs.Obeys.{rightBytes, noneTwice, bodyMet, lengthMet, obeysBy, obeys, Obeys}
+use Rattle.matching.specs.Obeys.{rightBytes, noneTwice, bodyMet, lengthMet, obeysBy, Obeys}
 use Rattle.matching.proofs.RulesByBlocks.{Agree, ByBlocks, obeys-says, obeys-test}
 use Rattle.records.specs.Records.{pairOf, Below}
 use Rattle.witnesses.specs.ByKind.{Allows, OneBlock}

@@ -1,5 +1,5 @@
 -- The judge's answer by the pairs that a witness gives, and by what the body asks besides. Assumes nothing.
-use mathlib.Core.Path.{_≡_, refl, sym, ap, _∙_, subst}
+use mathlib.Core.Path.{_≡_, refl, sym, ap, _∙_}
 use mathlib.Core.Bool.{Bool, true, false, _&&_, _||_, cond}
 use mathlib.Core.Logic.{_⊎_, inl, inr, ⊎-elim}
 use mathlib.Core.List.{List, [], _∷_}
@@ -9,8 +9,7 @@ use borrow.Author.Tests.{eqb-true, eq-eqb}
 use lib.Dec.{eqb, leb}
 use lib.IntN.{ℤ, pos}
 use lib.ListN.{length, getD, take}
-use Rattle.facts.specs.Counting.{cnt}
-use Rattle.facts.proofs.Cases.{and-left, and-right, both, one-of, or-left, or-right, holds?, not-so}
+use Rattle.facts.proofs.Cases.{and-left, and-right, both, one-of, or-left, or-right, not-so}
 use Rattle.masks.specs.Masks.{bit}
 use Rattle.blocks.specs.Numbers.{blocksIn}
 use Rattle.grammar.specs.Element.{Elem}

@@ -11,7 +11,7 @@ use lib.IntN.{ℤ}
 use Rattle.facts.proofs.Cases.{not-so}
 use Rattle.byte_order.specs.ByteOrder.{First}
 use Rattle.blocks.specs.Numbers.{blocksIn}
-use Rattle.blocks.specs.Pieces.{Best, Passing}
+use Rattle.blocks.specs.Pieces.{Best}
 use Rattle.grammar.specs.Element.{Elem}
 use Rattle.grammar.specs.Leaf.{Leaf, leafHead}
 use Rattle.grammar.specs.Template.{Template, template}

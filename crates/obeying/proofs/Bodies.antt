@@ -19,9 +19,9 @@ use Rattle.blocks.specs.Pieces.{Cuts, Passing}
 use Rattle.blocks.proofs.Assignments.{once-test, test-once}
 use Rattle.blocks.proofs.FirstLists.{passing-holds}
 use Rattle.grammar.specs.Leaf.{Leaf}
-use Rattle.grammar.specs.Template.{Star, Group, grouped, Item, Body, recordOf, setOf, superset, subset, membersOf, membersOfGroup, membersOfItems}
-use Rattle.grammar.specs.Blocks.{minOf, maxOf, blockOfGroup, blocksOfItems, blocksOf, bodyKind}
-use Rattle.matching.specs.Obeys.{spare, groupTakes, cuts, bodyMet}
+use Rattle.grammar.specs.Template.{grouped, Body, recordOf, setOf, superset, subset, membersOf, membersOfGroup}
+use Rattle.grammar.specs.Blocks.{minOf, maxOf, blockOfGroup, blocksOf, bodyKind}
+use Rattle.matching.specs.Obeys.{bodyMet}
 use Rattle.matching.proofs.ItemsAsBlocks.{Within, Once, MayAll, Piece, group-says, group-test, length-once}
 use Rattle.matching.proofs.RulesByBlocks.{cuts-says, cuts-test}
 use Rattle.judging.specs.Reach.{anyPair}

@@ -1,6 +1,6 @@
 -- An offered witness gone over byte by byte: the pairs before e are right, and `left` has the members that do not stand before e. Assumes nothing.
 use mathlib.Core.Path.{_≡_, refl, sym, ap, _∙_, subst}
-use mathlib.Core.Bool.{Bool, true, false}
+use mathlib.Core.Bool.{true, false}
 use mathlib.Core.Logic.{_⊎_, inl, inr, ⊎-elim}
 use mathlib.Core.List.{List}
 use Prim.Native.Nat.{ℕ, _+_, _≤_, _<_}
@@ -21,7 +21,7 @@ use Rattle.grammar.specs.Leaf.{Leaf}
 use Rattle.grammar.specs.Matches.{matches}
 use Rattle.grammar.specs.Members.{memberHits}
 use Rattle.matching.proofs.RulesByBlocks.{hits-low}
-use Rattle.pairs.specs.Pairs.{Right, Left, Paired, right, wrong}
+use Rattle.pairs.specs.Pairs.{Right, Left, Paired, right}
 
 pub record Going (es : List (Elem Leaf)) (xs : List ℤ) (w : List ℕ) (e left : ℕ) : Type 0 where
   pub bytes : (i : ℕ) → i < e → (getD w i 0 ≡ 255) ⊎ (memberHits matches es (getD w i 0) (getD xs i (pos 0)) ≡ true)

@@ -1,23 +1,19 @@
 -- The places from which blocks go on, one block more at a time. Assumes nothing.
-use mathlib.Core.Path.{_≡_, refl, sym, ap, _∙_, subst}
+use mathlib.Core.Path.{_≡_, refl, sym, _∙_, subst}
 use mathlib.Core.Logic.{⊎-elim}
-use mathlib.Core.Bool.{Bool, true, false, _&&_}
+use mathlib.Core.Bool.{Bool, true, false}
 use mathlib.Core.List.{List, [], _∷_, _++_}
-use Prim.Native.Nat.{ℕ, zero, suc, _+_, _-_, _≤_, _<_}
+use Prim.Native.Nat.{ℕ, _+_, _-_, _≤_, _<_}
 use native.Mathlib.Omega.{arith}
-use lib.Dec.{eqb}
-use lib.ListN.{length, getD, replicate, length-replicate, getD-replicate}
-use borrow.Author.Tests.{eqb-true}
+use lib.ListN.{replicate}
 use Rattle.masks.specs.Masks.{bit, Plus}
 use Rattle.masks.proofs.Masks.{bit-none}
-use Rattle.facts.specs.Counting.{between, cnt}
-use Rattle.facts.proofs.Cases.{same?, clash, and-left, and-right, hit, miss}
-use Rattle.facts.proofs.Spans.{between-in, between-to}
+use Rattle.facts.proofs.Cases.{same?, clash}
+use Rattle.facts.proofs.Spans.{between-to}
 use Rattle.place_masks.specs.Places.{Before}
 use Rattle.blocks.specs.declared.Block.{Block}
-use Rattle.blocks.specs.Assignment.{takes}
 use Rattle.blocks.specs.Pieces.{Takes, Cuts, isOne}
-use Rattle.blocks.proofs.Assignments.{takes-spare, takes-member, takes-inv, assigns-rows}
+use Rattle.blocks.proofs.Assignments.{assigns-rows}
 use Rattle.blocks.proofs.Cutting.{cuts-order}
 use Rattle.blocks.proofs.OneMember.{one-taken, taken-one}
 use Rattle.blocks.proofs.SpareBlocks.{spares-taken}

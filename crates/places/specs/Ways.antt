@@ -11,10 +11,9 @@
 -- Assumes nothing: these are definitions.
 use mathlib.Core.Path.{_≡_}
 use mathlib.Core.Logic.{_⊎_}
-use mathlib.Core.Bool.{Bool, true, _&&_}
+use mathlib.Core.Bool.{Bool, true}
 use mathlib.Core.List.{List}
 use Prim.Native.Nat.{ℕ, _+_, _≤_, _<_}
-use lib.Dec.{eqb}
 use Rattle.masks.specs.Masks.{bit}
 use Rattle.facts.specs.Counting.{between}
 use Rattle.place_masks.specs.Places.{Ahead}

@@ -1,7 +1,7 @@
 -- Cuts by plain blocks: the numbers of the members one after the other, where each may take its element, and nothing else. Assumes nothing.
 -- plain-cuts, cuts-plain: from any block on. plain-passing: a list that is those numbers is a cut, and no other is.
 use mathlib.Core.Path.{_≡_, refl, sym, ap, ap₂, _∙_, subst}
-use mathlib.Core.Bool.{Bool, true, false}
+use mathlib.Core.Bool.{Bool, true}
 use mathlib.Core.Logic.{⊎-elim}
 use mathlib.Core.List.{List, [], _∷_, _++_}
 use Prim.Native.Nat.{ℕ, zero, suc, _+_, _≤_, _<_}

@@ -12,7 +12,7 @@ use lib.ListN.{length, getD, take}
 use lib.Seq.{take-take, length-take-le}
 use Rattle.facts.specs.Counting.{between}
 use Rattle.facts.proofs.Cases.{holds?, clash, and-left, and-right, both, one-of, or-left, or-right, not-so}
-use Rattle.facts.proofs.Spans.{between-in, between-from, between-to}
+use Rattle.facts.proofs.Spans.{between-from, between-to}
 use Rattle.masks.specs.Masks.{bit}
 use Rattle.rows.specs.Rows.{may}
 use Rattle.place_masks.specs.Places.{Before as SparesBefore}
@@ -24,11 +24,10 @@ use Rattle.grammar.specs.Matches.{matches}
 use Rattle.grammar.specs.Members.{memberHits}
 use Rattle.element_match.specs.Contract.{Among, HitsAt}
 use Rattle.member_rows.specs.Places.{MembersAt, MembersMarked}
-use Rattle.member_rows.proofs.RowByRow.{member-at, standing-length, places-count}
-use Rattle.places.specs.Ways.{Back, Low, Agrees}
+use Rattle.member_rows.proofs.RowByRow.{member-at}
+use Rattle.places.specs.Ways.{Back, Low}
 use Rattle.blocks.specs.Pieces.{isOne}
 use Rattle.places.proofs.Backward.{Tested, back-one, back-spares, back-agree}
-use Rattle.blocks.proofs.OneMember.{one-parts}
 use Rattle.records.specs.Records.{pairOf, Sound, Before}
 
 -- ---- the rows stay as they are

@@ -13,9 +13,9 @@ use lib.ListN.{length, getD, take, set, replicate, length-set, replicate-append-
 use lib.Seq.{getD-set-same, getD-set-other}
 use Rattle.facts.proofs.Cases.{below, same?, clash, and-left, and-right}
 use Rattle.blocks.specs.declared.Block.{Block}
-use Rattle.blocks.specs.Numbers.{block, blockIn, blocksIn}
+use Rattle.blocks.specs.Numbers.{blockIn, blocksIn}
 use Rattle.blocks.specs.Pieces.{Takes, Cuts}
-use Rattle.blocks.proofs.Cutting.{cuts-order, cuts-snoc, cuts-unsnoc}
+use Rattle.blocks.proofs.Cutting.{cuts-snoc, cuts-unsnoc}
 use Rattle.blocks.proofs.SpareBlocks.{spares-taken, spares-only}
 use Rattle.blocks.proofs.LentBlocks.{lent, lent-more, cuts-lent, lent-cuts}
 use Rattle.records.specs.Records.{Below}

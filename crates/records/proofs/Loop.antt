@@ -1,12 +1,12 @@
 -- All blocks, from the last to the first: the places from which those from j on go on to the end, and the rows of the groups among them. Assumes nothing.
 use mathlib.Core.Path.{_≡_, refl, sym, ap, _∙_, subst}
-use mathlib.Core.Bool.{Bool, true, false}
+use mathlib.Core.Bool.{true, false}
 use mathlib.Core.Logic.{⊎-elim}
 use mathlib.Core.List.{List, [], _∷_}
 use Prim.Native.Nat.{ℕ, zero, suc, _+_, _≤_, _<_}
 use native.Mathlib.Omega.{arith}
 use lib.IntN.{ℤ}
-use lib.ListN.{length, getD, take, drop, set, replicate, length-set}
+use lib.ListN.{length, getD, take, drop, set, replicate}
 use lib.Seq.{getD-set-same, getD-set-other}
 use Rattle.facts.specs.Counting.{between}
 use Rattle.facts.proofs.Cases.{same?, holds?, clash, not-so}
@@ -15,11 +15,11 @@ use Rattle.rows.specs.Rows.{may}
 use Rattle.rows.proofs.Rows.{zeros-may}
 use Rattle.blocks.specs.declared.Block.{Block}
 use Rattle.blocks.specs.Numbers.{blockIn, blocksIn}
-use Rattle.blocks.specs.Pieces.{Cuts, Cutting, Inside, isOne}
-use Rattle.blocks.proofs.LentBlocks.{lent, cuts-lent}
+use Rattle.blocks.specs.Pieces.{Cutting, Inside, isOne}
+use Rattle.blocks.proofs.LentBlocks.{lent}
 use Rattle.grammar.specs.Element.{Elem}
 use Rattle.grammar.specs.Leaf.{Leaf}
-use Rattle.places.specs.Ways.{Ways, Way, Back, Low, Agrees}
+use Rattle.places.specs.Ways.{Ways}
 use Rattle.places.proofs.LentPlaces.{lent-end, lent-back, lent-never}
 use Rattle.blocks.proofs.FirstLists.{none-best}
 use Rattle.plain.specs.Plain.{Plain}

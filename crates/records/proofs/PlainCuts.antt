@@ -1,25 +1,23 @@
 -- Cuts by plain blocks: the numbers of the members one after the other, where each matches its element, and nothing else. Assumes nothing.
-use mathlib.Core.Path.{_≡_, refl, sym, ap, ap₂, _∙_, subst}
-use mathlib.Core.Bool.{Bool, true, false}
+use mathlib.Core.Path.{_≡_, refl, ap, _∙_}
+use mathlib.Core.Bool.{true, false}
 use mathlib.Core.Logic.{⊎-elim}
-use mathlib.Core.List.{List, [], _∷_, _++_}
-use Prim.Native.Nat.{ℕ, zero, suc, _+_, _-_, _≤_, _<_}
+use mathlib.Core.List.{List}
+use Prim.Native.Nat.{ℕ, _+_, _-_, _≤_, _<_}
 use native.Mathlib.Omega.{arith}
 use lib.IntN.{ℤ}
-use lib.ListN.{length, getD, take, drop, set, replicate, length-set, getD-replicate}
+use lib.ListN.{length, getD, take, set, replicate, length-set, getD-replicate}
 use lib.Seq.{getD-set-same, getD-set-other}
 use Rattle.byte_order.proofs.ByteOrder.{earlier-irreflexive}
 use Rattle.facts.proofs.Cases.{same?, clash}
-use Rattle.blocks.specs.declared.Block.{Block}
-use Rattle.blocks.specs.Numbers.{block, blockIn, blocksIn}
-use Rattle.blocks.specs.Pieces.{Takes, Cuts, Cutting, isOne}
-use Rattle.blocks.proofs.LentBlocks.{lent, lent-none, lent-at, cuts-lent, lent-cuts}
+use Rattle.blocks.specs.Numbers.{blocksIn}
+use Rattle.blocks.specs.Pieces.{Cuts, Cutting}
+use Rattle.blocks.proofs.LentBlocks.{cuts-lent, lent-cuts}
 use Rattle.grammar.specs.Element.{Elem}
 use Rattle.grammar.specs.Leaf.{Leaf}
 use Rattle.plain.specs.Plain.{Plain, upFrom}
 use Rattle.plain.proofs.UpFrom.{up-take}
 use Rattle.plain.proofs.PlainCuts.{plain-cuts, cuts-plain}
-use Rattle.blocks.proofs.OneMember.{one-taken, taken-one}
 use Rattle.blocks.proofs.FirstLists.{none-best}
 use Rattle.records.specs.Records.{pairOf}
 

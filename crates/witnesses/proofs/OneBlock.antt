@@ -8,15 +8,11 @@ use native.Mathlib.Omega.{arith}
 use borrow.Author.Tests.{ltb-true, ltb-false}
 use lib.Dec.{ltb}
 use lib.IntN.{ℤ, pos}
-use lib.ListN.{length, getD, take, replicate, getD-replicate}
-use lib.Seq.{slice}
-use Rattle.facts.specs.Counting.{between}
+use lib.ListN.{length, getD, take, replicate}
 use Rattle.facts.proofs.Cases.{below, clash, one-of}
 use Rattle.facts.proofs.Spans.{between-past}
-use Rattle.byte_order.specs.ByteOrder.{First}
-use Rattle.blocks.specs.Assignment.{Assigns}
 use Rattle.blocks.specs.declared.Block.{Block}
-use Rattle.blocks.specs.Pieces.{Takes, Cuts, Fills, Best, Cutting, Filling}
+use Rattle.blocks.specs.Pieces.{Takes, Cuts, Cutting, Filling}
 use Rattle.blocks.proofs.FirstLists.{best-same, none-best}
 use Rattle.assign.specs.Answer.{Answer}
 use Rattle.rows.specs.Rows.{may}

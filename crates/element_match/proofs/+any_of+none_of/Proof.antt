@@ -1,11 +1,11 @@
 -- The cycle of `any_of` and `none_of`: `none_of` goes over the members, and calls both with one depth less; `any_of` is `none_of` turned round. The loop:
 -- however the members were read, those from p on are the rest of them, and `rest` has the asked elements that the others miss. Assumes nothing.
-use mathlib.Core.Path.{_≡_, sym, ap, _∙_}
+use mathlib.Core.Path.{sym, ap, _∙_}
 use mathlib.Core.Bool.{true, false}
 use mathlib.Core.Logic.{⊎-elim}
 use native.Mathlib.Omega.{arith}
 use Prim.Native.Nat.{ℕ, _+_, _*_, _<_}
-use Rattle.element_match.specs.Contract.{WalkTells, maskIn, placeIn}
+use Rattle.element_match.specs.Contract.{maskIn, placeIn}
 use Rattle.element_match.proofs.Walks.{Here, MemberMisses, here-fits, leaf-there, opened, last-kind, opened-last, leaf-misses-again, group-misses, Going, start, here, step, done, retold, member-retold, turned-round}
 use borrow.Fn.Kinds.{In}
 use borrow.Fn.PlainCycle.{Measures, is, falls, and}

@@ -1,5 +1,4 @@
 -- `element_match::hit` meets its contract. Assumes nothing.
-use native.Mathlib.Omega.{arith}
 use Rattle.element_match.proofs.Walks.{only-one, asked-one}
 use borrow.Author.Needs.{needs}
 use Rattle.element_match.proofs.hit.Statement.{statement}

@@ -1,16 +1,14 @@
 -- `element_match::missed` meets its contract. The loop: `left` are still to be tested. The measure is how many they are. Assumes nothing.
-use mathlib.Core.Path.{_≡_, refl, sym, _∙_}
-use Prim.Native.Nat.{ℕ, _<_}
+use mathlib.Core.Path.{_≡_, refl, _∙_}
+use Prim.Native.Nat.{_<_}
 use native.Mathlib.Omega.{arith}
-use lib.IntN.{pos}
-use lib.ListN.{length, getD}
+use lib.ListN.{length}
 use mir.Syntax.{w32}
 use mir.Val.{toZ, ofZ}
 use borrow.Author.Needs.{needs}
 use Rattle.facts.specs.Counting.{count}
 use Rattle.masks.specs.Masks.{bit}
 use Rattle.masks.proofs.OneByOne.{left-falls}
-use Rattle.integers.specs.Integer.{Word}
 use Rattle.integers.proofs.SignedLocals.{again-same}
 use Rattle.element_match.proofs.Asked.{inside, Testing, testing-start, testing-kept, testing-gone, testing-done, test-told}
 use Rattle.element_match.proofs.missed.Statement.{statement}

@@ -1,5 +1,5 @@
 -- `element_match::others` meets its contract. Assumes nothing.
-use mathlib.Core.Path.{_≡_, ap, _∙_}
+use mathlib.Core.Path.{ap, _∙_}
 use mathlib.Core.Bool.{Bool}
 use Rattle.masks.specs.Masks.{bit}
 use Rattle.masks.proofs.Masks.{bit-xor, odd}

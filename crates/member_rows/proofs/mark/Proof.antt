@@ -1,5 +1,4 @@
 -- `member_rows::mark` meets its contract: a leaf by its bounds, what has members by the mask of all elements. Assumes nothing.
-use mathlib.Core.Path.{_≡_, refl}
 use Prim.Native.Nat.{_≤_}
 use native.Mathlib.Omega.{arith}
 use lib.ListN.{length}

@@ -1,5 +1,4 @@
 -- `member_rows::mark_hits` meets its contract. The loop: those of `left` are still to be marked. The measure is how many they are. Assumes nothing.
-use Prim.Native.Nat.{ℕ, _<_}
 use native.Mathlib.Omega.{arith}
 use borrow.Author.Needs.{needs}
 use Rattle.facts.specs.Counting.{count}

@@ -1,5 +1,4 @@
 -- `member_rows::widened` meets its contract. The loop: the first e integers are those of the list, and 0 after them. Assumes nothing.
-use mathlib.Core.Path.{_≡_, refl}
 use Prim.Native.Nat.{_-_, _≤_}
 use native.Mathlib.Omega.{arith}
 use lib.ListN.{length}

@@ -1,5 +1,4 @@
 -- `body_met` meets its contract: each kind by what it asks. Assumes nothing.
-use native.Mathlib.Omega.{arith}
 use mathlib.Core.Path.{refl, _∙_}
 use Rattle.plain.proofs.PlainCuts.{plain-passing}
 use Rattle.judging.specs.Reach.{anyPair}

@@ -1,5 +1,4 @@
 -- `counts_up` meets its contract. The loop: the flag says whether there are as many bytes, and those before e are their own places. Assumes nothing.
-use mathlib.Core.Path.{_≡_}
 use native.Mathlib.Omega.{arith}
 use Prim.Native.Nat.{_-_, _≤_}
 use lib.ListN.{length}

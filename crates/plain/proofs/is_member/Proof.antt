@@ -1,6 +1,5 @@
 -- `is_member` meets its contract. Assumes nothing.
 use native.Mathlib.Omega.{arith}
-use borrow.Author.Needs.{needs}
 use Rattle.plain.proofs.Numbers.{member-number}
 use Rattle.plain.proofs.is_member.Statement.{statement}
 use Rattle.plain.proofs.is_member.Tie as tie

@@ -3,7 +3,6 @@ use native.Mathlib.Omega.{arith}
 use Prim.Native.Nat.{_-_, _≤_}
 use mathlib.Core.Path.{_≡_}
 use Rattle.plain.proofs.Numbers.{Looked, looked-start, looked-step}
-use borrow.Author.Needs.{needs}
 use Rattle.plain.proofs.is_plain.Statement.{statement}
 use Rattle.plain.proofs.is_plain.Tie as tie
 

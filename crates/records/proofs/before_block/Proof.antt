@@ -1,7 +1,7 @@
 -- `before_block` meets its contract: a block with no members moves places, one member is tested, a group is searched for. Assumes nothing.
 use native.Mathlib.Omega.{arith}
 use Prim.Native.Nat.{_<_}
-use mathlib.Core.Path.{_≡_, refl, sym, _∙_}
+use mathlib.Core.Path.{refl, sym, _∙_}
 use Rattle.member_rows.proofs.RowByRow.{element-there}
 use Rattle.blocks.proofs.OneMember.{one-parts}
 use Rattle.records.proofs.Blocks.{before-spares, before-member, asked-among, member-tested, members-fewer, before-group}

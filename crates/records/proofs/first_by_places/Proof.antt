@@ -1,12 +1,11 @@
 -- `first_by_places` meets its contract. The loop: the places from which the blocks from j on go on, and the rows of the groups among them. Assumes nothing.
 use native.Mathlib.Omega.{arith}
 use Rattle.records.specs.Records.{pairOf}
-use mathlib.Core.Path.{_≡_, refl, sym, ap, _∙_, subst}
+use mathlib.Core.Path.{_≡_, refl, sym, _∙_, subst}
 use mathlib.Core.List.{List}
 use Prim.Native.Nat.{ℕ, _-_, _≤_, _<_}
 use lib.ListN.{length, take, length-set}
 use borrow.Author.Tests.{not-true, not-false}
-use borrow.Author.Needs.{needs}
 use Rattle.grammar.specs.Element.{Elem}
 use Rattle.grammar.specs.Leaf.{Leaf}
 use Rattle.grammar.specs.Blocks.{Standing}

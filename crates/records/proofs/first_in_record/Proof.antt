@@ -1,6 +1,5 @@
 -- `first_in_record` meets its contract: a plain record by its elements, any other by its blocks, with each run of 20s as one. Assumes nothing.
 use mathlib.Core.Path.{refl}
-use native.Mathlib.Omega.{arith}
 use borrow.Author.Needs.{needs}
 use Rattle.blocks.proofs.FirstLists.{best-same}
 use Rattle.records.proofs.Loop.{plain-few}

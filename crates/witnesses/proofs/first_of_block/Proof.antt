@@ -1,5 +1,4 @@
 -- `first_of_block` meets its contract: a cut by one block is what it takes of all elements. Assumes nothing.
-use native.Mathlib.Omega.{arith}
 use mathlib.Core.Path.{refl}
 use Rattle.witnesses.proofs.OneBlock.{other-size, whole-answer, out-of-size, in-size}
 use borrow.Author.Needs.{needs}

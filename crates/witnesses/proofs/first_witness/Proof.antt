@@ -5,7 +5,7 @@ use mathlib.Core.List.{List, [], _∷_}
 use Rattle.blocks.specs.declared.Block.{Block}
 use Rattle.blocks.specs.Pieces.{Cutting}
 use Rattle.records.specs.Records.{pairOf}
-use mathlib.Core.Path.{_≡_, refl, sym, ap, _∙_, subst}
+use mathlib.Core.Path.{sym, ap, _∙_, subst}
 use Rattle.witnesses.proofs.ByKind.{first-subset, first-blocks}
 use Rattle.witnesses.proofs.OneBlock.{cutting-pairs, filling-pairs, below-one}
 use borrow.Author.Needs.{needs}

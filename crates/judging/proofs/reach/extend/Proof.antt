@@ -1,7 +1,6 @@
 -- `extend` meets its contract: a block with no members goes along spare elements. Assumes nothing.
 use Rattle.judging.proofs.SpareElements.{along-extended}
 use Rattle.judging.proofs.ReachedPlaces.{extended-end}
-use native.Mathlib.Omega.{arith}
 use borrow.Author.Needs.{needs}
 use Rattle.judging.proofs.reach.extend.Statement.{statement}
 use Rattle.judging.proofs.reach.extend.Tie as tie

@@ -1,5 +1,4 @@
 -- `fresh` meets its contract: each test is a part of `Fresh`. Assumes nothing.
-use mathlib.Core.Path.{sym, _∙_}
 use native.Mathlib.Omega.{arith}
 use borrow.Author.Needs.{needs}
 use Rattle.judging.proofs.PieceTest.{fresh-low, fresh-high, fresh-any}

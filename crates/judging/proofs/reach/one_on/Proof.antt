@@ -1,5 +1,4 @@
 -- `one_on` meets its contract. Assumes nothing.
-use native.Mathlib.Omega.{arith}
 use Rattle.judging.proofs.SpareElements.{one-on}
 use borrow.Author.Needs.{needs}
 use Rattle.judging.proofs.reach.one_on.Statement.{statement}

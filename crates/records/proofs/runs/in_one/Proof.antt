@@ -1,5 +1,5 @@
 -- `records::runs::in_one` meets its contract. Assumes nothing.
-use mathlib.Core.Path.{refl, sym, _∙_}
+use mathlib.Core.Path.{refl, _∙_}
 use borrow.Author.Needs.{needs}
 use Rattle.records.proofs.runs.in_one.Statement.{statement}
 use Rattle.records.proofs.runs.in_one.Tie as tie

@@ -1,7 +1,7 @@
 -- `records::runs::join_runs` meets its contract. The loop: the blocks before j, with each run of 20s as one, are written. Assumes nothing.
-use mathlib.Core.Path.{_≡_, refl, sym, _∙_, subst}
+use mathlib.Core.Path.{_≡_, refl, sym, _∙_}
 use mathlib.Core.Logic.{⊎-elim}
-use Prim.Native.Nat.{ℕ, _-_, _≤_, _<_}
+use Prim.Native.Nat.{_-_, _≤_, _<_}
 use native.Mathlib.Omega.{arith}
 use Rattle.records.proofs.JoinedRuns.{Joining, joining-start, joining-other, joining-run, joining-end, joining-as}
 use Rattle.records.proofs.runs.join_runs.Statement.{statement}
