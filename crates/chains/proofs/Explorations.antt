@@ -103,7 +103,7 @@ module _ {may : ℕ → ℕ → Bool} {F H R W T : ℕ → Bool} {w : List ℕ} 
 pub common : (a b : ℕ) → b < 2 ^ 32 → (bitAnd a b ≡ 0 → ⊥) → (e : ℕ) × (bit a e ≡ true) × (bit b e ≡ true)
 common a b fits n =
     let le = and-le-r a b in
-    let low = lowest-bit (bitAnd a b) (omega arith) (omega arith) in
+    let low = lowest-bit 32 (bitAnd a b) (omega arith) (omega arith) in
     let k = and-bits a b _ (low .inside) in
     (_, k .0, k .1)
 

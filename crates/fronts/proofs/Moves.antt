@@ -9,13 +9,13 @@ use lib.Dec.{leb}
 use lib.ListN.{length, getD, set, take, replicate, length-append, length-take, length-set, replicate-append-replicate, List·getD-append}
 use lib.Seq.{slice, length-slice, getD-take, getD-append-add, getD-set-same, getD-set-other, ext-getD}
 use borrow.Author.Tests.{le-leb, leb-true}
-use Rattle.masks.specs.Masks.{bit, Plus}
-use Rattle.masks.proofs.Masks.{bit-none}
+use Rattle.masks.specs.Masks.{bit, Plus, Lowest}
+use Rattle.masks.proofs.Masks.{bit-none, lowest-first}
 use Rattle.facts.proofs.Cases.{same?, below, clash, and-left, and-right, both}
 use Rattle.facts.proofs.Slices.{slice-at}
 use Rattle.byte_order.specs.ByteOrder.{earlier}
 use Rattle.byte_order.proofs.ByteOrder.{earlier-irreflexive}
-use Rattle.place_masks.specs.Places.{Least, Behind, After}
+use Rattle.place_masks.specs.Places.{Behind, After}
 use Rattle.blocks.specs.declared.Block.{Block}
 use Rattle.blocks.specs.Pieces.{Takes, isOne}
 use Rattle.assign.specs.Splice.{Spliced}
@@ -189,7 +189,7 @@ nexts-are {b} {ends} {Q} {head} {next} {places} near spread kept low cut s from 
 
 -- ---- one member and no spare element
 module _ {may : ℕ → ℕ → Bool} {b : Block} {ends Q l q : ℕ} {w : List ℕ} (places : ℕ) (one : isOne b ≡ true) (block : b .first + b .k ≤ 32) (low : Low ends 32) (lead : Leading may b ends Q) (t : Standing Q l w)
-    (least : Least Q q) (only : Plus (bit 0) (q + 1) (bit places)) where
+    (least : Lowest 64 Q q) (only : Plus (bit 0) (q + 1) (bit places)) where
   abbrev g : List ℕ
   g = placed q (b .first ∷ [])
 
@@ -222,7 +222,7 @@ module _ {may : ℕ → ℕ → Bool} {b : Block} {ends Q l q : ℕ} {w : List �
       let high = f .1 in
       let held = one-held in
       let byte = one-byte in
-      let pq = least .least p h in
+      let pq = lowest-first least p h in
       let sx = k .lone .size in
       let sg = held .lone .size in
       ⊎-elim
@@ -250,7 +250,7 @@ module _ {may : ℕ → ℕ → Bool} {b : Block} {ends Q l q : ℕ} {w : List �
             let is : e ≡ q + 1 = ⊎-elim (λ (y : e ≡ q + 1). y) (λ (y : e ≡ q + 1 → ⊥). absurd (clash h (only .other e y ∙ bit-none e))) (same? e (q + 1)) in
             record { place = q; here = least .inside; early = omega arith; near = omega arith; far = omega arith; after = omega arith; good = subst (λ (d : ℕ). bit ends d ≡ true) (sym is) (one-fits .2) };
         all = λ e o.
-            let pq = least .least (o .place) (o .here) in
+            let pq = lowest-first least (o .place) (o .here) in
             let early = o .early in
             let near = o .near in
             let far = o .far in

@@ -10,7 +10,8 @@ use lib.Dec.{leb}
 use lib.ListN.{getD}
 use lib.Seq.{slice, length-slice}
 use borrow.Author.Tests.{le-leb}
-use Rattle.masks.specs.Masks.{bit}
+use Rattle.masks.specs.Masks.{bit, Lowest}
+use Rattle.masks.proofs.Masks.{lowest-first}
 use Rattle.facts.specs.Counting.{between, count}
 use Rattle.facts.proofs.Cases.{same?, below, not-so, and-right, both}
 use Rattle.facts.proofs.Counting.{cnt-place, count-less}
@@ -18,7 +19,6 @@ use Rattle.facts.proofs.Spans.{between-to}
 use Rattle.facts.proofs.Slices.{slice-at}
 use Rattle.byte_order.specs.ByteOrder.{earlier}
 use Rattle.byte_order.proofs.ByteOrder.{earlier-not-transitive, earlier-asymmetric}
-use Rattle.place_masks.specs.Places.{Least}
 use Rattle.place_masks.proofs.PlaceBits.{bit-pos}
 use Rattle.blocks.specs.declared.Block.{Block}
 use Rattle.blocks.specs.Assignment.{takes}
@@ -143,7 +143,7 @@ module _ {may : ℕ → ℕ → Bool} {b : Block} {ends p t : ℕ} {found : Bool
       })
 
 -- ---- the start: from the least place
-module _ {may : ℕ → ℕ → Bool} {b : Block} {ends Q p t : ℕ} {found : Bool} {w : List ℕ} (block : b .first + b .k ≤ 32) (k : 0 < b .k) (low : Low ends 32) (least : Least Q p) (lead : Leads may b ends p)
+module _ {may : ℕ → ℕ → Bool} {b : Block} {ends Q p t : ℕ} {found : Bool} {w : List ℕ} (block : b .first + b .k ≤ 32) (k : 0 < b .k) (low : Low ends 32) (least : Lowest 64 Q p) (lead : Leads may b ends p)
     (f : Furthest ends (p + (b .k + b .max)) t) (a : Answer may (b .first) (b .k) p t found w) where
   pub pick-start : {head rest : ℕ} (after : ℕ) → FirstMember w p t head → ((e : ℕ) → bit after e ≡ (leb (p + 1) e && bit Q e)) → ((e : ℕ) → bit rest e ≡ (leb e head && bit after e)) → Picking may b ends Q w t rest
   pick-start {head} {rest} after m is cut = record {
@@ -152,7 +152,7 @@ module _ {may : ℕ → ℕ → Bool} {b : Block} {ends Q p t : ℕ} {found : Bo
     high = low t (f .here);
     inside = λ q h. and-right (leb (p + 1) q) (bit Q q) (sym (is q) ∙ and-right (leb q head) (bit after q) (sym (cut q) ∙ h));
     least = λ q e x here end h.
-        let pq = least .least q here in
+        let pq = lowest-first least q here in
         let few = h .taken .few in
         let o = h .order in
         ⊎-elim
@@ -170,11 +170,11 @@ module _ {may : ℕ → ℕ → Bool} {b : Block} {ends Q p t : ℕ} {found : Bo
   }
 
 -- ---- one place more
-module _ {may : ℕ → ℕ → Bool} {b : Block} {ends Q to rest p t : ℕ} {g : List ℕ} (s : Picking may b ends Q g to rest) (least : Least rest p) (f : Furthest ends (p + (b .k + b .max)) t) where
+module _ {may : ℕ → ℕ → Bool} {b : Block} {ends Q to rest p t : ℕ} {g : List ℕ} (s : Picking may b ends Q g to rest) (least : Lowest 64 rest p) (f : Furthest ends (p + (b .k + b .max)) t) where
   -- what is left begins later
   left-later : {q e : ℕ} {x : List ℕ} → bit ends e ≡ true → Held may b q e x → bit rest q ≡ true → t < e → p < q
   left-later {q} {e} end h here l =
-      let pq = least .least q here in
+      let pq = lowest-first least q here in
       let few = h .taken .few in
       let o = h .order in
       ⊎-elim
@@ -209,7 +209,7 @@ module _ {may : ℕ → ℕ → Bool} {b : Block} {ends Q to rest p t : ℕ} {g 
           (λ (y : t < e).
           let d = left-later end h (z .0) y in
           inr (is q ∙ both (leb (p + 1) q) (bit rest q) (le-leb (p + 1) q (omega arith)) (z .0), y))
-          (λ (y : e ≤ t). inl (earlier-not-transitive g w x no-sooner (search-covers block low lead f a (least .least q (z .0)) y h)))
+          (λ (y : e ≤ t). inl (earlier-not-transitive g w x no-sooner (search-covers block low lead f a (lowest-first least q (z .0)) y h)))
           (below t e))
           (s .least q e x here end h);
     }
@@ -230,12 +230,12 @@ module _ {may : ℕ → ℕ → Bool} {b : Block} {ends Q to rest p t : ℕ} {g 
           let d = left-later end h (z .0) y in
           inr (cut q ∙ both (leb q head) (bit after q) (le-leb q head u) (is q ∙ both (leb (p + 1) q) (bit rest q) (le-leb (p + 1) q (omega arith)) (z .0)), y))
           (below head q))
-          (λ (y : e ≤ t). inl (search-covers block low lead f a (least .least q (z .0)) y h))
+          (λ (y : e ≤ t). inl (search-covers block low lead f a (lowest-first least q (z .0)) y h))
           (below t e))
           (s .least q e x here end h);
     }
 
 -- fewer places are left
-pub rest-fewer : {rest p : ℕ} (next : ℕ) → Least rest p → ((e : ℕ) → bit next e ≡ true → (p < e) × (bit rest e ≡ true)) → count (bit next) 64 < count (bit rest) 64
+pub rest-fewer : {rest p : ℕ} (next : ℕ) → Lowest 64 rest p → ((e : ℕ) → bit next e ≡ true → (p < e) × (bit rest e ≡ true)) → count (bit next) 64 < count (bit rest) 64
 rest-fewer {rest} {p} next g up =
     count-less {P = bit next} {S = bit rest} (λ e h. up e h .1) p (not-so (bit next p) (λ h. let z = up p h .0 in omega arith)) (g .inside) 64 (g .low)

@@ -2,8 +2,8 @@
 -- bit n k       == bit k of the mask n
 -- Plus P m S   <-> the set S is P with m in it
 -- Flipped P k S <-> the set S is P but for k, which is in just one of them
--- Lowest n e   <-> e is the least number in the mask n
--- Highest n e  <-> e is the greatest number in the mask n
+-- Lowest w n e  <-> e is the least number in the mask n, of w bits
+-- Highest w n e <-> e is the greatest number in the mask n, of w bits
 -- Meets a b r  <-> r says whether the masks a and b have a number in common
 -- Assumes nothing: these are definitions.
 use mathlib.Core.Path.{_≡_}
@@ -22,13 +22,13 @@ pub record Flipped (P : ℕ → Bool) (k : ℕ) (S : ℕ → Bool) : Type 0 wher
   pub self : S k ≡ not (P k)
   pub other : (v : ℕ) → (v ≡ k → ⊥) → S v ≡ P v
 
-pub record Lowest (n e : ℕ) : Type 0 where
-  pub low : e < 32
+pub record Lowest (w n e : ℕ) : Type 0 where
+  pub low : e < w
   pub inside : bit n e ≡ true
   pub least : (j : ℕ) → j < e → bit n j ≡ false
 
-pub record Highest (n e : ℕ) : Type 0 where
-  pub low : e < 32
+pub record Highest (w n e : ℕ) : Type 0 where
+  pub low : e < w
   pub inside : bit n e ≡ true
   pub greatest : (j : ℕ) → e < j → bit n j ≡ false
 

@@ -1,20 +1,19 @@
--- The bits of a mask of places: cut off, moved, filled; its least and its greatest place. Assumes nothing.
+-- The bits of a mask of places: cut off, moved, filled. Assumes nothing.
 use mathlib.Core.Path.{_≡_, refl, sym, ap, ap₂, _∙_, subst}
 use mathlib.Core.Logic.{⊎-elim}
 use mathlib.Core.Bool.{Bool, true, false, not, _&&_}
 use Prim.Native.Nat.{ℕ, zero, suc, _+_, _-_, _*_, _/_, _%_, _^_, _≤_, _<_}
-use native.Mathlib.Nat.{div-eq-of-lt, div-lt-iff-lt-mul, le-div-iff-mul-le, lt-of-lt-of-le, one-mul, pow-suc}
+use native.Mathlib.Nat.{div-eq-of-lt, lt-of-lt-of-le}
 use native.Mathlib.Omega.{arith}
 use lib.Dec.{eqb, leb, ltb}
 use lib.Bits.{bitAnd, bitXor}
-use lib.Pow.{pow-pos, pow-mono, ones-split, ones-lt, high}
-use lib.Count.{leadingZeros, trailingZeros, leading-top}
+use lib.Pow.{pow-mono}
 use borrow.Author.Tests.{le-leb, lt-leb, lt-ltb, le-ltb}
 use Rattle.masks.specs.Masks.{bit}
 use Rattle.facts.proofs.Cases.{below, clash, not-so}
-use Rattle.masks.proofs.Masks.{odd, bit-and, bit-xor, bit-past, bit-none, odd-digit, zero-digit}
+use Rattle.facts.proofs.Spans.{between-in}
+use Rattle.masks.proofs.Masks.{odd, bit-and, bit-xor, bit-past, bit-none, ones-bits}
 use Rattle.masks.proofs.Shifted.{bit-shr, bit-shl, bit-shl-low, bit-cut}
-use Rattle.place_masks.specs.Places.{Least, Greatest}
 
 -- a number below 2 ^ n has its bits below n
 pub bit-inside : (n x e : ℕ) → x < 2 ^ n → bit x e ≡ true → e < n
@@ -83,16 +82,7 @@ cut-from n x p e l = moved-up n (x / 2 ^ p) p e ∙ ⊎-elim
 
 -- ---- every place below n
 pub bit-ones : (n e : ℕ) → e < n → bit (2 ^ n - 1) e ≡ true
-unfolding bit
-bit-ones n e l = subst (λ (z : ℕ). eqb ((2 ^ z - 1) / 2 ^ e % 2) 1 ≡ true) (omega arith) (at (n - suc e))
-  where
-    at : (d : ℕ) → eqb ((2 ^ (suc d + e) - 1) / 2 ^ e % 2) 1 ≡ true
-    at d =
-        let split : (2 ^ (suc d + e) - 1) / 2 ^ e ≡ 2 ^ suc d - 1 = ap (λ (z : ℕ). z / 2 ^ e) (ones-split (suc d) e) ∙ high (2 ^ suc d - 1) e (ones-lt e) in
-        let twice = pow-suc 2 d in
-        let pos = pow-pos d in
-        let odd-one : (2 ^ suc d - 1) % 2 ≡ 1 = omega arith in
-        ap (λ (z : ℕ). eqb (z % 2) 1) split ∙ ap (λ (z : ℕ). eqb z 1) odd-one
+bit-ones n e l = ones-bits n e ∙ between-in 0 n e (omega arith) l
 
 not-odd : (a b : Bool) → (a && odd b true) ≡ (a && not b)
 not-odd true true = refl
@@ -105,38 +95,3 @@ without-bits n a b e l = bit-and a (bitXor (2 ^ n - 1) b) e ∙ ⊎-elim
     (λ (k : e < n). ap (λ t. bit a e && t) (bit-xor (2 ^ n - 1) b e ∙ ap (λ t. odd (bit b e) t) (bit-ones n e k)) ∙ not-odd (bit a e) (bit b e))
     (λ (k : n ≤ e). ap (λ t. t && bit (bitXor (2 ^ n - 1) b) e) (bit-outside n a e l k) ∙ sym (ap (λ t. t && not (bit b e)) (bit-outside n a e l k)))
     (below e n)
-
--- ---- the least and the greatest place
-pub least-place : (x : ℕ) → 0 < x → x < 2 ^ 64 → Least x (trailingZeros 64 x)
-unfolding bit
-least-place x h l =
-    let t = odd-digit 64 x h l in
-    record {
-      inside = ap (λ (z : ℕ). eqb z 1) (t .1);
-      least = λ j b. ⊎-elim
-          (λ (k : j < trailingZeros 64 x). absurd (clash b (ap (λ (z : ℕ). eqb z 1) (zero-digit 64 x j k))))
-          (λ (k : trailingZeros 64 x ≤ j). k)
-          (below j (trailingZeros 64 x));
-      low = t .0;
-    }
-
-top-digit : (x j : ℕ) → 2 ^ j ≤ x → x < 2 ^ suc j → bit x j ≡ true
-unfolding bit
-top-digit x j l h =
-    let one-le : 1 ≤ x / 2 ^ j = le-div-iff-mul-le (pow-pos j) .1 (subst (λ (z : ℕ). z ≤ x) (sym (one-mul (2 ^ j))) l) in
-    let lt-two : x / 2 ^ j < 2 = div-lt-iff-lt-mul (pow-pos j) .1 (let p = pow-suc 2 j in omega arith) in
-    let e : x / 2 ^ j % 2 ≡ 1 = omega arith in
-    ap (λ (z : ℕ). eqb z 1) e
-
-pub greatest-place : (x e : ℕ) → 0 < x → x < 2 ^ 64 → leadingZeros 64 x + suc e ≡ 64 → Greatest x e
-greatest-place x e h l q =
-    let t = leading-top 64 x h l in
-    let z : t .0 ≡ e = let s = t .1 in omega arith in
-    subst (λ (j : ℕ). Greatest x j) z (record {
-      inside = top-digit x (t .0) (t .2) (t .3);
-      greatest = λ j b. let k = bit-inside (suc (t .0)) x j (t .3) b in omega arith;
-      low = let s = t .1 in omega arith;
-    })
-
-pub leading-pos : (x : ℕ) → 0 < x → x < 2 ^ 64 → leadingZeros 64 x ≤ 63
-leading-pos x h l = let t = leading-top 64 x h l in let s = t .1 in omega arith

@@ -7,12 +7,12 @@ use native.Mathlib.Omega.{arith}
 use lib.Dec.{leb, ltb}
 use lib.Count.{leadingZeros}
 use borrow.Author.Tests.{le-leb, leb-true, lt-ltb, ltb-true}
-use Rattle.masks.specs.Masks.{bit}
+use Rattle.masks.specs.Masks.{bit, Lowest}
 use Rattle.facts.proofs.Cases.{below, clash, and-left, and-right, both, one-of, or-left, or-right}
-use Rattle.masks.proofs.Masks.{bit-none}
+use Rattle.masks.proofs.Masks.{bit-none, lowest-first, highest-last, leading-few, highest-bit}
 use Rattle.masks.proofs.Shifted.{bit-shr}
-use Rattle.place_masks.specs.Places.{Least, Ahead, Behind, Before, After}
-use Rattle.place_masks.proofs.PlaceBits.{bit-inside, bit-ones, leading-pos, greatest-place}
+use Rattle.place_masks.specs.Places.{Ahead, Behind, Before, After}
+use Rattle.place_masks.proofs.PlaceBits.{bit-inside, bit-ones}
 
 -- ---- one place more, or further
 pub before-none : {places : ℕ} (least most : ℕ) → ((p : ℕ) → Ahead places least most p → ⊥) → Before places least most 0
@@ -117,22 +117,22 @@ after-moved {places} {least} {more} {moved} {r} most q m b = record {
 pub before-all : (places more : ℕ) → 0 < places → places < 2 ^ 64 → 63 ≤ more → Before places 0 more ((2 ^ 64 - 1) / 2 ^ leadingZeros 64 places)
 before-all places more h l w =
     let z = leadingZeros 64 places in
-    let small : z ≤ 63 = leading-pos places h l in
-    let g = greatest-place places (63 - z) h l (omega arith) in
+    let small = leading-few 64 places h l in
+    let g = highest-bit 64 places (63 - z) h l (omega arith) in
     record {
       some = λ p b.
           let k = bit-inside 64 (2 ^ 64 - 1) (p + z) (omega arith) (sym (bit-shr (2 ^ 64 - 1) z p) ∙ b) in
           record { place = 63 - z; here = g .inside; near = omega arith; far = omega arith };
-      all = λ p a. let n = a .near in let k = g .greatest (a .place) (a .here) in bit-shr (2 ^ 64 - 1) z p ∙ bit-ones 64 (p + z) (omega arith);
+      all = λ p a. let n = a .near in let k = highest-last g (a .place) (a .here) in bit-shr (2 ^ 64 - 1) z p ∙ bit-ones 64 (p + z) (omega arith);
     }
 
-pub after-all : {places first r : ℕ} (more : ℕ) → Least places first → ((e : ℕ) → bit r e ≡ (leb first e && bit (2 ^ 64 - 1) e)) → 63 ≤ more → After places 0 more r
+pub after-all : {places first r : ℕ} (more : ℕ) → Lowest 64 places first → ((e : ℕ) → bit r e ≡ (leb first e && bit (2 ^ 64 - 1) e)) → 63 ≤ more → After places 0 more r
 after-all {places} {first} {r} more g u w = record {
   some = λ e h.
       let k = sym (u e) ∙ h in
       let o = leb-true first e (and-left (leb first e) (bit (2 ^ 64 - 1) e) k) in
       let i = bit-inside 64 (2 ^ 64 - 1) e (omega arith) (and-right (leb first e) (bit (2 ^ 64 - 1) e) k) in
       record { place = first; here = g .inside; near = omega arith; far = omega arith };
-  all = λ e l a. let n = a .near in let k = g .least (a .place) (a .here) in u e ∙ both (leb first e) (bit (2 ^ 64 - 1) e) (le-leb first e (omega arith)) (bit-ones 64 e l);
+  all = λ e l a. let n = a .near in let k = lowest-first g (a .place) (a .here) in u e ∙ both (leb first e) (bit (2 ^ 64 - 1) e) (le-leb first e (omega arith)) (bit-ones 64 e l);
   low = λ e h. bit-inside 64 (2 ^ 64 - 1) e (omega arith) (and-right (leb first e) (bit (2 ^ 64 - 1) e) (sym (u e) ∙ h));
 }

@@ -2,14 +2,13 @@
 use mathlib.Core.Path.{_≡_, refl, sym, _∙_}
 use mathlib.Core.Bool.{Bool, true, false}
 use Prim.Native.Nat.{ℕ}
-use native.Mathlib.Omega.{arith}
 use borrow.Fn.Kinds.{Dens, resT, endedOf}
 use contract.Lifetimes.{Lfts}
 use denote.Triple.Clauses.{AtExit}
 use Rattle.masks.specs.Masks.{bit}
 use Rattle.facts.proofs.Cases.{clash, not-so}
-use Rattle.masks.proofs.Masks.{bits-same}
-use Rattle.place_masks.specs.Places.{Least, Greatest, Before, After}
+use Rattle.masks.proofs.Masks.{bits-same, lowest-same, highest-same}
+use Rattle.place_masks.specs.Places.{Before, After}
 use Rattle.place_masks.proofs.up_to.Reads as up-to-reads
 use Rattle.place_masks.proofs.up_to.Kinds as up-to-kinds
 use Rattle.place_masks.proofs.from_on.Reads as from-on-reads
@@ -35,12 +34,6 @@ use Rattle.place_masks.proofs.after_spares.Kinds as after-spares-kinds
 pub tests-same : (s t : Bool) → (s ≡ true → t ≡ true) → (t ≡ true → s ≡ true) → s ≡ t
 tests-same true t f g = sym (f refl)
 tests-same false t f g = sym (not-so t (λ h. clash (g h) refl))
-
-least-same : (n d e : ℕ) → Least n d → Least n e → d ≡ e
-least-same n d e p q = let a = p .least e (q .inside) in let b = q .least d (p .inside) in omega arith
-
-greatest-same : (n d e : ℕ) → Greatest n d → Greatest n e → d ≡ e
-greatest-same n d e p q = let a = p .greatest e (q .inside) in let b = q .greatest d (p .inside) in omega arith
 
 before-same : (n least most r s : ℕ) → Before n least most r → Before n least most s → r ≡ s
 before-same n least most r s p q = bits-same r s (λ e. tests-same (bit r e) (bit s e) (λ h. q .all e (p .some e h)) (λ h. p .all e (q .some e h)))
@@ -70,11 +63,11 @@ left-out-unique κs a r r' s s' p q = bits-same r r' (λ e. p e ∙ sym (q e))
 
 pub lowest-place-unique : (κs : Lfts 0) (a : Dens κs lowest-place-kinds.ps) (r r' : resT lowest-place-kinds.r κs .Denot) (s s' : AtExit (endedOf 0 lowest-place-kinds.ps lowest-place-kinds.r) κs)
     → lowest-place-reads.Post κs a r s → lowest-place-reads.Post κs a r' s' → r ≡ r'
-lowest-place-unique κs a r r' s s' p q = least-same (a .0) r r' p q
+lowest-place-unique κs a r r' s s' p q = lowest-same p q
 
 pub highest-place-unique : (κs : Lfts 0) (a : Dens κs highest-place-kinds.ps) (r r' : resT highest-place-kinds.r κs .Denot) (s s' : AtExit (endedOf 0 highest-place-kinds.ps highest-place-kinds.r) κs)
     → highest-place-reads.Post κs a r s → highest-place-reads.Post κs a r' s' → r ≡ r'
-highest-place-unique κs a r r' s s' p q = greatest-same (a .0) r r' p q
+highest-place-unique κs a r r' s s' p q = highest-same p q
 
 pub moved-up-unique : (κs : Lfts 0) (a : Dens κs moved-up-kinds.ps) (r r' : resT moved-up-kinds.r κs .Denot) (s s' : AtExit (endedOf 0 moved-up-kinds.ps moved-up-kinds.r) κs)
     → moved-up-reads.Post κs a r s → moved-up-reads.Post κs a r' s' → r ≡ r'

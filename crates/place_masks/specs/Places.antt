@@ -1,6 +1,4 @@
 -- Sets of the places of a list as masks. A set in a contract is a test on numbers, `bit mask`.
--- Least places e    <-> e is the least of the places
--- Greatest places e <-> e is the greatest of the places, and below 64
 -- Ahead places least most p  <-> one of the places lies least to most elements after p
 -- Behind places least most e <-> one of the places lies least to most elements before e
 -- Before places least most r <-> r has exactly the places p with `Ahead places least most p`
@@ -10,16 +8,6 @@ use mathlib.Core.Path.{_≡_}
 use mathlib.Core.Bool.{true}
 use Prim.Native.Nat.{ℕ, _+_, _≤_, _<_}
 use Rattle.masks.specs.Masks.{bit}
-
-pub record Least (places e : ℕ) : Type 0 where
-  pub inside : bit places e ≡ true
-  pub least : (j : ℕ) → bit places j ≡ true → e ≤ j
-  pub low : e < 64
-
-pub record Greatest (places e : ℕ) : Type 0 where
-  pub inside : bit places e ≡ true
-  pub greatest : (j : ℕ) → bit places j ≡ true → j ≤ e
-  pub low : e < 64
 
 pub record Ahead (places least most p : ℕ) : Type 0 where
   pub place : ℕ

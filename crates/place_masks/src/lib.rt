@@ -4,8 +4,8 @@ ghost use mathlib.Core.Path.{_≡_};
 ghost use mathlib.Core.Bool.{_&&_, _||_, not};
 ghost use Prim.Native.Nat.{ℕ, _+_, _-_, _<_, _≤_};
 ghost use lib.Dec.{leb, ltb};
-ghost use Rattle.masks.specs.Masks.{bit};
-ghost use Rattle.place_masks.specs.Places.{Least, Greatest, Before, After};
+ghost use Rattle.masks.specs.Masks.{bit, Lowest, Highest};
+ghost use Rattle.place_masks.specs.Places.{Before, After};
 use masks::lesser;
 
 // Every place below 64.
@@ -55,7 +55,7 @@ pub fn left_out(a: u64, b: u64) -> u64
 // The least of the places, of which there is one.
 pub fn lowest_place(places: u64) -> usize
     requires { ⌜ 0 < places ⌝ }
-    ensures { λ r. ⌜ Least places r ⌝ }
+    ensures { λ r. ⌜ Lowest 64 places r ⌝ }
 {
     u64::trailing_zeros(places) as usize
 }
@@ -63,7 +63,7 @@ pub fn lowest_place(places: u64) -> usize
 // The greatest of the places, of which there is one.
 pub fn highest_place(places: u64) -> usize
     requires { ⌜ 0 < places ⌝ }
-    ensures { λ r. ⌜ Greatest places r ⌝ }
+    ensures { λ r. ⌜ Highest 64 places r ⌝ }
 {
     63 - u64::leading_zeros(places) as usize
 }

@@ -8,12 +8,12 @@ use native.Mathlib.Omega.{arith}
 use lib.Dec.{leb}
 use lib.Seq.{slice}
 use borrow.Author.Tests.{le-leb, leb-true, not-true}
-use Rattle.masks.specs.Masks.{bit, Plus}
-use Rattle.masks.proofs.Masks.{bit-none}
+use Rattle.masks.specs.Masks.{bit, Plus, Highest}
+use Rattle.masks.proofs.Masks.{bit-none, highest-last}
 use Rattle.facts.specs.Counting.{count}
 use Rattle.facts.proofs.Cases.{same?, clash, not-so, holds?, and-left, and-right, both, one-of, or-left, or-right}
 use Rattle.facts.proofs.Counting.{count-less}
-use Rattle.place_masks.specs.Places.{Greatest, Before}
+use Rattle.place_masks.specs.Places.{Before}
 use Rattle.blocks.specs.declared.Block.{Block}
 use Rattle.blocks.specs.Assignment.{Assigns}
 use Rattle.assign.specs.Answer.{Answer}
@@ -27,13 +27,13 @@ pub record Furthest (good most q : ℕ) : Type 0 where
   pub near : q ≤ most
   pub greatest : (e : ℕ) → bit good e ≡ true → e ≤ most → e ≤ q
 
-pub furthest-is : {good most q : ℕ} (cut : ℕ) → ((e : ℕ) → bit cut e ≡ (leb e most && bit good e)) → Greatest cut q → Furthest good most q
+pub furthest-is : {good most q : ℕ} (cut : ℕ) → ((e : ℕ) → bit cut e ≡ (leb e most && bit good e)) → Highest 64 cut q → Furthest good most q
 furthest-is {good} {most} {q} cut is g =
     let h = sym (is q) ∙ g .inside in
     record {
       here = and-right (leb q most) (bit good q) h;
       near = leb-true q most (and-left (leb q most) (bit good q) h);
-      greatest = λ e b l. g .greatest e (is e ∙ both (leb e most) (bit good e) (le-leb e most l) b);
+      greatest = λ e b l. highest-last g e (is e ∙ both (leb e most) (bit good e) (le-leb e most l) b);
     }
 
 -- ---- one search

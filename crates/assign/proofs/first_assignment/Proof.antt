@@ -47,7 +47,7 @@ returns-2 c =
     let p = called .before .pre in
     let waiting = called .quick .result .waiting in
     let small : waiting < 2 ^ 32 = search needs in
-    let low = lowest-bit waiting (omega (arith, else1 .if1 .left)) small in
+    let low = lowest-bit 32 waiting (omega (arith, else1 .if1 .left)) small in
     answer-none (p .0) (p .1) (p .2) refl
     (unwanted-short _ (p .0) (p .2) (called .quick .ensures .partly) (low .inside) (made .span .ensures) (c .before .spare-wanted .ensures (not-true _ (c .if2 .taken))))
 

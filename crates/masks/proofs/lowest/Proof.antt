@@ -9,7 +9,7 @@ cast-result : tie.Need-cast-result
 cast-result c = omega (arith, trailing-le 32 (c .args .mask))
 
 returns : tie.Need-returns
-returns c = lowest-bit (c .args .mask) (c .pre) (c .fits .mask .fits)
+returns c = lowest-bit 32 (c .args .mask) (c .pre) (c .fits .mask .fits)
 
 pub lowest-spec : {M : Type 1} → statement M
 lowest-spec = tie.close (tie.spec cast-result returns)

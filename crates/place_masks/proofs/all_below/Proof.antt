@@ -1,6 +1,7 @@
 -- `all_below` meets its contract: as many places as are not leading zeros. Assumes nothing.
 use lib.Count.{leading-le}
-use Rattle.place_masks.proofs.PlaceBits.{leading-pos, bit-pos}
+use Rattle.masks.proofs.Masks.{leading-few}
+use Rattle.place_masks.proofs.PlaceBits.{bit-pos}
 use Rattle.place_masks.proofs.Spreads.{before-none, before-all}
 use native.Mathlib.Omega.{arith}
 use Rattle.place_masks.proofs.all_below.Statement.{statement}
@@ -13,7 +14,7 @@ cast-result : tie.Need-cast-result
 cast-result c = omega (arith, leading-le 64 (c .before .args .places))
 
 shr-result : tie.Need-shr-result
-shr-result c = omega (arith, leading-pos (c .before .args .places) (omega arith) (c .before .fits .places .fits))
+shr-result c = omega (arith, leading-few 64 (c .before .args .places) (omega arith) (c .before .fits .places .fits))
 
 returns-2 : tie.Need-returns-2
 returns-2 c = λ more w. before-all (c .before .args .places) more (omega arith) (c .before .fits .places .fits) w

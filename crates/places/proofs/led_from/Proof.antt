@@ -2,6 +2,7 @@
 use Rattle.place_masks.proofs.PlaceBits.{bit-pos}
 use Rattle.facts.proofs.Cases.{both}
 use Rattle.masks.specs.Masks.{bit}
+use Rattle.masks.proofs.Masks.{highest-last}
 use borrow.Author.Tests.{le-leb, not-true, not-false}
 use lib.Dec.{leb}
 use mathlib.Core.Bool.{true}
@@ -31,7 +32,7 @@ enough : (c : tie.After-highest-place) → start c .args .p + (start c .args .b 
 enough c =
     let a = start c .pre .2 in
     let n = a .near in
-    let g = c .highest-place .ensures .greatest (a .place) (ahead (c .before)) in
+    let g = highest-last (c .highest-place .ensures) (a .place) (ahead (c .before)) in
     omega arith
 
 order : (c : tie.After-highest-place) → start c .args .p ≤ c .highest-place .result
