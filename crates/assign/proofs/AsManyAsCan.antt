@@ -17,7 +17,8 @@ use Rattle.assign.specs.Widest.{Widest}
 use Rattle.facts.proofs.Cases.{same?, holds?, clash, not-so, and-left, and-right, both, one-of, or-left, or-right}
 use Rattle.facts.proofs.Spans.{between-to}
 use Rattle.facts.proofs.Counting.{cnt-at}
-use Rattle.chains.proofs.Chains.{flipped-down, flipped-out, served-kept, served-held, served-within}
+use Rattle.masks.proofs.OneByOne.{flipped-down, flipped-out}
+use Rattle.chains.proofs.Chains.{served-kept, served-held, served-within}
 use Rattle.chains.proofs.Blocked.{holdersOf, holders-of}
 use Rattle.refining.proofs.AsThirtyTwoBytes.{partly-same, partly-block, partly-waits, partly-served}
 

@@ -17,8 +17,8 @@ use Rattle.refining.specs.AsBytes.{fits, Dealt}
 use Rattle.refining.specs.Refine.{Agrees, Sooner, Leads}
 use Rattle.assign.specs.Quick.{Greedy}
 use Rattle.facts.proofs.Counting.{cnt-place, cnt-two}
-use Rattle.chains.proofs.Chains.{give-spare}
-use Rattle.refining.proofs.AsThirtyTwoBytes.{within-may, within-in, fits-block, fits-within, partly-start, partly-done, partly-low, partly-served}
+use Rattle.chains.proofs.Chains.{give-spare, within-may}
+use Rattle.refining.proofs.AsThirtyTwoBytes.{within-in, fits-block, fits-within, partly-start, partly-done, partly-low, partly-served}
 use Rattle.refining.proofs.Refinement.{dealt-outside}
 
 -- on the way: besides, no element from e on has a member yet

@@ -18,7 +18,8 @@ use Rattle.facts.proofs.Spans.{between-from}
 use Rattle.byte_order.proofs.ByteOrder.{earlier-irreflexive, earlier-asymmetric, earlier-at}
 use Rattle.facts.proofs.Counting.{cnt-append, cnt-replicate}
 use Rattle.blocks.proofs.Assignments.{takes-inv, takes-spare, takes-member, short-never}
-use Rattle.refining.proofs.AsThirtyTwoBytes.{within-may, within-in, fits-block, fits-within, fits-in}
+use Rattle.chains.proofs.Chains.{within-may}
+use Rattle.refining.proofs.AsThirtyTwoBytes.{within-in, fits-block, fits-within, fits-in}
 use Rattle.refining.proofs.Refinement.{dealt-outside}
 use Rattle.facts.proofs.Slices.{slice-at, cnt-slice}
 

@@ -7,6 +7,7 @@ use mathlib.Core.List.{List, [], _∷_, _++_}
 use Prim.Native.Nat.{ℕ, zero, suc, _+_, _≤_, _<_}
 use native.Mathlib.Omega.{arith}
 use lib.ListN.{length, getD, take, drop}
+use Rattle.facts.proofs.Slices.{nil-of-length}
 use Rattle.blocks.specs.declared.Block.{Block}
 use Rattle.blocks.specs.Numbers.{blockIn, blocksIn}
 use Rattle.blocks.specs.Pieces.{Cuts, Inside}
@@ -49,10 +50,6 @@ pub lent-inside : (n : ℕ) (vs : List ℕ) (i : ℕ) {b : Block} → b ≡ bloc
 lent-inside n vs i is l h = subst (λ (b : Block). b .first + b .k ≤ 32) (sym is) (inside-here n vs i l h)
 
 -- ---- the block of 0 takes no element
-empty : (w : List ℕ) → length w ≡ 0 → w ≡ []
-empty [] q = refl
-empty (x ∷ w) q = absurd (omega arith)
-
 cuts-none : (may : ℕ → ℕ → Bool) (bs : List Block) (from to : ℕ) (w : List ℕ) → from ≤ to → Cuts may bs from to w → Cuts may (blockIn 0 ∷ bs) from to w
 unfolding Cuts blockIn
 cuts-none may bs from to w l c = record {
@@ -80,7 +77,7 @@ none-cuts may bs from to w c =
     let few = j .onLeft .few in
     let size = j .onLeft .assigned .size in
     let q : c .mid ≡ from = omega arith in
-    let whole : j .right ≡ w = sym (j .whole ∙ ap (λ (x : List ℕ). x ++ j .right) (empty (j .left) (omega arith))) in
+    let whole : j .right ≡ w = sym (j .whole ∙ ap (λ (x : List ℕ). x ++ j .right) (nil-of-length (j .left) (omega arith))) in
     subst (λ (x : List ℕ). Cuts may bs from to x) whole (subst (λ (x : ℕ). Cuts may bs x to (j .right)) q (j .onRight))
 
 -- ---- so what is read past the end cuts nothing off

@@ -18,15 +18,7 @@ use Rattle.facts.proofs.Cases.{clash, and-left, and-right, both, one-of, or-lef
 use Rattle.facts.proofs.Counting.{cnt-at, count-places, places-count, places-le, places-onto}
 use Rattle.blocks.proofs.Assignments.{want-inv}
 use Rattle.facts.proofs.CountedSets.{any-found, any-in, count-zero}
-use Rattle.chains.proofs.Chains.{within-both}
-
-within-row : (may : ℕ → ℕ → Bool) (from to v e : ℕ) → within may from to v e ≡ true → may v e ≡ true
-unfolding within
-within-row may from to v e = and-left (may v e) (between from to e)
-
-within-place : (may : ℕ → ℕ → Bool) (from to v e : ℕ) → within may from to v e ≡ true → between from to e ≡ true
-unfolding within
-within-place may from to v e = and-right (may v e) (between from to e)
+use Rattle.chains.proofs.Chains.{within-both, within-may, within-piece}
 
 -- ---- the holders of a set of places, as a test
 pub holdersOf : List ℕ → (ℕ → Bool) → ℕ → Bool
@@ -67,8 +59,8 @@ stuck-blocked {may} {F} {H} {G} {S} {w} {m} from to k h size held all-open =
             inr (subst (λ (u : ℕ). (u < 32) × (1 ≤ cnt u w)) (f .4) (low, cnt-at w (f .0) (omega (arith, f .1)))))
             (one-of (eqb v m) (S v) g);
         closed = λ v g e l o.
-            let z = shut v g e (within-row may from to v e o) in
-            let here : H e ≡ true = ⊎-elim (λ (f : F e ≡ true). absurd (clash f (z .0))) (λ (t : H e ≡ true). t) (all-open e (within-place may from to v e o)) in
+            let z = shut v g e (within-may may from to v e o) in
+            let here : H e ≡ true = ⊎-elim (λ (f : F e ≡ true). absurd (clash f (z .0))) (λ (t : H e ≡ true). t) (all-open e (within-piece may from to v e o)) in
             record { low = held e here; seen = or-right (eqb (getD w e 0) m) (S (getD w e 0)) (h .all e l (both (H e) (not (G e)) here (ap not (z .1)))) };
       },
       λ v n z. ap₂ (λ (x y : Bool). x || y) (ne-eqb v m n) z,

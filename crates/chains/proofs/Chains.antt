@@ -17,19 +17,7 @@ use Rattle.facts.proofs.Cases.{same?, below, holds?, clash, not-so, and-left, a
 use Rattle.facts.proofs.Spans.{between-in, between-from, between-to}
 use Rattle.facts.proofs.Counting.{cnt-set, count-less}
 use Rattle.masks.proofs.Masks.{odd, bit-and, bit-xor, and-bits}
-
--- ---- a mask from which a place was taken
-pub flipped-down : {G K : ℕ → Bool} {e : ℕ} → Flipped G e K → G e ≡ true → (j : ℕ) → K j ≡ true → G j ≡ true
-flipped-down {G} {K} {e} f here j t = ⊎-elim (λ (q : j ≡ e). rw q here) (λ (n : j ≡ e → ⊥). sym (f .other j n) ∙ t) (same? j e)
-
-pub flipped-out : {G K : ℕ → Bool} {e : ℕ} → Flipped G e K → G e ≡ true → K e ≡ false
-flipped-out f here = f .self ∙ ap not here
-
--- a place that is tried is no longer to be tried
-pub left-falls : {G K L : ℕ → Bool} (e : ℕ) → Flipped G e K → G e ≡ true → e < 32 → ((j : ℕ) → L j ≡ true → K j ≡ true) → count L 32 < count G 32
-left-falls {G} {K} {L} e f here low down = count-less {P = L} {S = G}
-    (λ j t. flipped-down f here j (down j t))
-    e (not-so (L e) (λ q. clash (down e q) (flipped-out f here))) here 32 low
+use Rattle.masks.proofs.OneByOne.{flipped-down, flipped-out}
 
 -- ---- what may be reached, by more places
 pub reach-row : (may : ℕ → ℕ → Bool) (F H : ℕ → Bool) (v e : ℕ) → reach may F H v e ≡ true → may v e ≡ true
@@ -290,6 +278,14 @@ module _ {w : List ℕ} {from to : ℕ} (piece free : ℕ) (o : Spares w from to
   ready size member = record { member = member; size = size; free = λ e f. o .free e f .1; held = λ e h. held-inv e h .2 }
 
 -- what is open to a chain is of the piece
+pub within-may : (may : ℕ → ℕ → Bool) (from to v e : ℕ) → within may from to v e ≡ true → may v e ≡ true
+unfolding within
+within-may may from to v e = and-left (may v e) (between from to e)
+
+pub within-piece : (may : ℕ → ℕ → Bool) (from to v e : ℕ) → within may from to v e ≡ true → between from to e ≡ true
+unfolding within
+within-piece may from to v e = and-right (may v e) (between from to e)
+
 pub within-both : (may : ℕ → ℕ → Bool) (from to v e : ℕ) → may v e ≡ true → between from to e ≡ true → within may from to v e ≡ true
 unfolding within
 within-both may from to v e = both (may v e) (between from to e)

@@ -12,7 +12,8 @@ use Rattle.masks.specs.Masks.{bit, Flipped}
 use Rattle.chains.specs.Chain.{Ready, reach, Shut, Stuck, Spread, Explored}
 use Rattle.facts.proofs.Cases.{same?, holds?, clash, not-so, and-left, and-right, both, one-of, or-left, or-right}
 use Rattle.masks.proofs.Masks.{odd, and-bits, lowest-bit}
-use Rattle.chains.proofs.Chains.{flipped-down, flipped-out, reach-row, reach-open, reach-free, reach-held}
+use Rattle.masks.proofs.OneByOne.{flipped-down, flipped-out}
+use Rattle.chains.proofs.Chains.{reach-row, reach-open, reach-free, reach-held}
 
 -- the loop: R are the held places that are not tried yet, W is what m and the holders of the tried ones may take; each spread set has the tried ones, and
 -- what is open of W

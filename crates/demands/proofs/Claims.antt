@@ -40,7 +40,7 @@ use Rattle.demands.specs.NormalForms.{Accepted, SameIntegers}
 use Rattle.demands.specs.Calls.{MatchCall, JudgeCall, NormalCall}
 use Rattle.demands.specs.Claims.{Accepts, Refused, RefusedAlone, Kept, ListRows, MatchGiven, JudgeGiven, NormalGiven, MatchedExactly, JudgedExactly, FormCall, FormOf, MaximalRanges, First, Second, Third, EveryInput, JudgeAgrees, SomeIsMatched, AsJudged}
 use Rattle.demands.proofs.Calls.{match-answer, judge-answer, normal-answer, match-called, judge-called, normal-called}
-use Rattle.demands.proofs.NormalForms.{side-of, accepted-side, widest-of, length-normalForm, form-placed, same-integers-same-form, same-form-same-integers, form-of-form}
+use Rattle.demands.proofs.NormalForms.{side-of, accepted-side, widest-of, length-normalForm, form-placed, same-integers-same-form, same-form-same-integers, form-of-form, one-element}
 use Rattle.demands.proofs.Outcomes.{ListOutcome, tooLong, tooMany, unfit, rejected, decided, MatchOutcome, left, wrote, match-outcome, judge-outcome, NormalOutcome, declined, roomShort, formed, normal-outcome}
 
 -- ---- demand 1: the rows of the table that matcher and judge share
@@ -50,9 +50,6 @@ number-same o n m p q = cc
 
 not-both : {A : Type 0} (o : Read A) (n : ℕ) (a : A) → o ≡ refuse n → o ≡ got a [] → ⊥
 not-both o n a p q = let z : _≡_ {A = ℕ} 0 1 = cc in omega arith
-
-element-same : (t : List ℕ) (e e′ : Elem Leaf) → Accepted t e → Accepted t e′ → e ≡ e′
-element-same t e e′ p q = cc
 
 module _ (t : List ℕ) (xs : List ℤ) (Fit : Type 0) (k r : ℕ) (high : 12 ≤ k) where
   list-rows : ListOutcome t xs Fit k r → ListRows t xs Fit r
@@ -175,18 +172,18 @@ module _ (t room : List ℕ) (n l : ℕ) (after : List ℕ) where
   }
     where
       wide : (f : Elem Leaf) → Accepted t f → length (normalForm f) ≤ length room → ⊥
-      wide f p h = let s = ap (λ v. length (normalForm v)) (element-same t e f q p) in omega arith
+      wide f p h = let s = ap (λ v. length (normalForm v)) (one-element t e f q p) in omega arith
   given-of (formed e q b z k a) = record {
     refused = λ m p o. (λ f. absurd (omega arith), λ c. absurd (not-both (readElement leafHead t) m e c q));
     twelve = (λ f. absurd (omega arith), λ c. absurd (narrow (c .0) (c .1) (c .2)));
     done = (λ _. (e, q, b), λ _. z);
     numbers = (omega arith, λ f. omega arith, λ f. omega arith, λ f. omega arith);
-    written = λ _ f p. subst (λ v. (l ≡ length (normalForm v)) × (after ≡ normalForm v ++ drop l room)) (element-same t e f q p) (k, a);
+    written = λ _ f p. subst (λ v. (l ≡ length (normalForm v)) × (after ≡ normalForm v ++ drop l room)) (one-element t e f q p) (k, a);
     untouched = λ f. absurd (f z);
   }
     where
       narrow : (f : Elem Leaf) → Accepted t f → length room < length (normalForm f) → ⊥
-      narrow f p h = let s = ap (λ v. length (normalForm v)) (element-same t e f q p) in omega arith
+      narrow f p h = let s = ap (λ v. length (normalForm v)) (one-element t e f q p) in omega arith
 
   normal-given : NormalCall t room n l after → NormalGiven t room n l after
   normal-given c = given-of (normal-outcome t room n l after (normal-answer t room n l after c))

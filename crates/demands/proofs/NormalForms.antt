@@ -108,7 +108,7 @@ pub form-placed : (t : List ℕ) (e : Elem Leaf) (room : List ℕ) → Accepted 
 unfolding normalised answerTo placed
 form-placed t e room a h = rw (a, le-ltb (length room) (length (normalForm e)) h)
 
-one-element : (s : List ℕ) (e e′ : Elem Leaf) → Accepted s e → Accepted s e′ → e ≡ e′
+pub one-element : (s : List ℕ) (e e′ : Elem Leaf) → Accepted s e → Accepted s e′ → e ≡ e′
 one-element s e e′ p q = cc
 
 same-form : (e e′ : Elem Leaf) → Good e → Good e′ → SameIntegers e e′ → normalForm e ≡ normalForm e′

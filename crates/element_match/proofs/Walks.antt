@@ -12,7 +12,7 @@ use borrow.Author.Tests.{eqb-true}
 use lib.IntN.{ℤ, pos}
 use lib.Signed.{leZ}
 use lib.ListN.{length, getD, drop}
-use Rattle.facts.proofs.Cases.{same?, clash}
+use Rattle.facts.proofs.Cases.{same?, clash, and-left}
 use Rattle.masks.specs.Masks.{bit, Plus}
 use Rattle.masks.proofs.Masks.{bit-none, bits-same}
 use Rattle.integers.specs.Integer.{Word}
@@ -53,13 +53,9 @@ and-true : (a : Bool) → a ≡ (a && true)
 and-true true = refl
 and-true false = refl
 
-asked-for : (asked test : Bool) → (asked && test) ≡ true → asked ≡ true
-asked-for true test q = refl
-asked-for false test q = q
-
 -- whoever is missed was asked about
 pub still-among : {asked mask : ℕ} {test : ℕ → Bool} {xs : List ℤ} → Tells asked test mask → Among asked xs → Among mask xs
-still-among {asked} {mask} {test} h among = record { inside = λ j q. among .inside j (asked-for (bit asked j) (test j) (sym (h .told j) ∙ q)) }
+still-among {asked} {mask} {test} h among = record { inside = λ j q. among .inside j (and-left (bit asked j) (test j) (sym (h .told j) ∙ q)) }
 
 -- a mask that can have one number only has it, or is 0
 some-or-none : (mask j : ℕ) (b : Bool) → bit mask j ≡ b → ((v : ℕ) → (v ≡ j → ⊥) → bit mask v ≡ false) → not (eqb mask 0) ≡ b

@@ -44,6 +44,11 @@ pub not-so : (b : Bool) → (b ≡ true → ⊥) → b ≡ false
 not-so true n = absurd (n refl)
 not-so false n = refl
 
+-- two tests of which each holds where the other does are one
+pub same-test : (a b : Bool) → (a ≡ true → b ≡ true) → (b ≡ true → a ≡ true) → a ≡ b
+same-test true b up down = sym (up refl)
+same-test false b up down = sym (not-so b (λ t. clash (down t) refl))
+
 -- both tests, and one of two
 pub and-left : (a b : Bool) → (a && b) ≡ true → a ≡ true
 and-left true b h = refl

@@ -1,5 +1,5 @@
 -- A piece of a list: its places, what it counts where nothing is counted outside it, a piece cut at a middle place; and the rest from a place on. Assumes nothing.
-use mathlib.Core.Path.{_≡_, sym, ap, _∙_}
+use mathlib.Core.Path.{_≡_, sym, ap, _∙_, refl}
 use mathlib.Core.Bool.{true, false}
 use mathlib.Core.List.{List, [], _∷_, _++_}
 use mathlib.Core.Logic.{⊎-elim}
@@ -75,3 +75,8 @@ cnt-more m from e w f l =
     let a = cnt-append m (slice from e w) (getD w e 0 ∷ []) in
     let o = one-byte m (getD w e 0) in
     ap (λ (x : List ℕ). cnt m x) (slice-more from e w f l) ∙ omega arith
+
+-- a list without a place is no list but the empty one
+pub nil-of-length : (w : List ℕ) → length w ≡ 0 → w ≡ []
+nil-of-length [] h = refl
+nil-of-length (x ∷ w) h = absurd (omega arith)

@@ -1,4 +1,4 @@
--- What was accepted keeps the limits: a template that was read has at most 32 members. Assumes nothing.
+-- What was accepted keeps the limits: a template that was read has at most 4,096 bytes and at most 32 members. Assumes nothing.
 use mathlib.Core.Path.{_≡_, refl, subst}
 use mathlib.Core.Bool.{Bool, true, false, _&&_, cond}
 use mathlib.Core.List.{List, [], _∷_}
@@ -7,6 +7,7 @@ use native.Mathlib.Omega.{arith}
 use borrow.Author.Tests.{ltb-false}
 use lib.Dec.{ltb, eqb}
 use lib.ListN.{length, getD, drop, length-append}
+use Rattle.facts.proofs.Cases.{by-test}
 use Rattle.grammar.specs.Element.{Elem}
 use Rattle.grammar.specs.Template.{Star, noStar, star, Group, grouped, Item, one, permutation, Body, recordOf, setOf, superset, subset, Length, anyLength, between, Template, template, membersOfGroup, membersOfItem, membersOfItems, membersOf}
 use Rattle.grammar.specs.Record.{Head, fault, leafHere, group, kindOf, outside, countFault, boundsFault, head}
@@ -142,6 +143,11 @@ module _ {L : Type 0} (leaves : List ℕ → Head L) where
   template-few : (s : List ℕ) → Holds FewTemplate (templateHere leaves s)
   unfolding templateHere
   template-few s = either FewTemplate (eqb (kindOf s) 48) _ _ (unless FewTemplate (boundsFault s) _ (body-few (between (getD s 1 0) (getD s 2 0)) (drop 3 s))) (body-few anyLength s)
+
+  -- what was accepted is no longer than any template
+  pub accepted-short : (s : List ℕ) (t : Template L) → readTemplate leaves s ≡ got t [] → length s ≤ 4096
+  unfolding readTemplate
+  accepted-short s t q = by-test (ltb 4096 (length s)) (λ e. absurd (clash (rw e at q))) (λ e. ltb-false 4096 (length s) e)
 
   pub accepted-few : (s : List ℕ) (a : Length) (b : Body L) → readTemplate leaves s ≡ got (template a b) [] → length (membersOf b) ≤ 32
   unfolding readTemplate ended FewTemplate FewBody

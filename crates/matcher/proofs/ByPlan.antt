@@ -27,6 +27,7 @@ use Rattle.grammar.specs.Whole.{readTemplate}
 use Rattle.grammar.specs.Matches.{matches}
 use Rattle.grammar.specs.Members.{memberHits}
 use Rattle.grammar.specs.Blocks.{blockOfGroup, blockOfItem, blocksOfItems, blocksOf, bodyKind, lowOf, highOf, Standing}
+use Rattle.grammar.proofs.MemberLimit.{accepted-short}
 use Rattle.plans.specs.declared.Plan.{Plan}
 use Rattle.plans.specs.Plans.{Planned, PlanOf, refusedPlan, aPlan}
 use Rattle.member_rows.specs.Places.{MembersAt}
@@ -51,16 +52,8 @@ planned-ready t p n (aPlan a b q z pl) h l = record { attribute = a; body = b; a
 few : {t : List ℕ} {p : Plan} {n : ℕ} (r : Ready t p n) → length (membersOf (r .body)) ≤ 32
 few r = let s = r .planned .size in let f = r .planned .fewMembers in omega arith
 
--- what was accepted is no longer than any template
-accepted-short : (t : List ℕ) (o : Template Leaf) → readTemplate leafHead t ≡ got o [] → length t ≤ 4096
-unfolding readTemplate
-accepted-short t o q = by-test (ltb 4096 (length t)) (λ e. absurd (refused (rw e at q))) (λ e. ltb-false 4096 (length t) e)
-  where
-    refused : _≡_ {A = Read (Template Leaf)} (refuse 2) (got o []) → ⊥
-    refused e = let z : _≡_ {A = ℕ} 0 1 = cc in omega arith
-
 pub ready-members : {t : List ℕ} {p : Plan} {n : ℕ} → Ready t p n → MembersAt t (p .places) (p .members)
-ready-members {t} r = record { few = r .planned .fewMembers; short = let l = accepted-short t (template (r .attribute) (r .body)) (r .accepted) in omega arith; who = membersOf (r .body); size = r .planned .size; stands = r .planned .stands }
+ready-members {t} r = record { few = r .planned .fewMembers; short = let l = accepted-short leafHead t (template (r .attribute) (r .body)) (r .accepted) in omega arith; who = membersOf (r .body); size = r .planned .size; stands = r .planned .stands }
 
 -- ---- every block's members are below 32
 

@@ -15,6 +15,7 @@ use lib.Seq.{length-take-le, drop-append-seam, take-append-seam}
 use Rattle.facts.specs.Counting.{cnt}
 use Rattle.facts.proofs.Cases.{and-left, and-right, both, one-of, or-left, or-right, same?, hit, miss, below}
 use Rattle.facts.proofs.Counting.{cnt-append}
+use Rattle.facts.proofs.Slices.{nil-of-length}
 use Rattle.blocks.proofs.Assignments.{once-test, test-once}
 use Rattle.blocks.specs.Pieces.{Takes, Cuts, Fills}
 use Rattle.grammar.specs.Element.{Elem}
@@ -115,10 +116,6 @@ take-drop : (n : ℕ) (w : List ℕ) → w ≡ take n w ++ drop n w
 take-drop zero w = refl
 take-drop (suc n) [] = refl
 take-drop (suc n) (x ∷ w) = ap (λ v. x ∷ v) (take-drop n w)
-
-nil-of-length : (w : List ℕ) → length w ≡ 0 → w ≡ []
-nil-of-length [] h = refl
-nil-of-length (x ∷ w) h = absurd (omega arith)
 
 item-size : {L : Type 0} (m : ℕ) (i : Item L) → (blockOfItem m i .k ≡ length (membersOfItem i)) × (blockOfItem m i .first ≡ m)
 unfolding blockOfItem blockOfGroup membersOfItem membersOfGroup

@@ -10,7 +10,7 @@ use borrow.Author.Tests.{eqb-true, eq-eqb, leb-true, le-leb}
 use lib.Dec.{eqb, leb}
 use lib.ListN.{length, getD, take}
 use Rattle.facts.specs.Counting.{cnt}
-use Rattle.facts.proofs.Cases.{below, clash, holds?, and-left, and-right, both}
+use Rattle.facts.proofs.Cases.{below, clash, holds?, and-left, and-right, both, same-test}
 use Rattle.masks.specs.Masks.{bit}
 use Rattle.masks.proofs.Masks.{bit-none, bits-same}
 use Rattle.blocks.specs.declared.Block.{Block}
@@ -27,12 +27,6 @@ use Rattle.matching.proofs.RulesByBlocks.{cuts-says, cuts-test}
 use Rattle.judging.specs.Reach.{anyPair}
 use Rattle.obeying.specs.Spread.{Says, Spread}
 
--- two tests that imply each other
-same-test : (a b : Bool) → (a ≡ true → b ≡ true) → (b ≡ true → a ≡ true) → a ≡ b
-same-test true b f g = sym (f refl)
-same-test false true f g = g refl
-same-test false false f g = refl
-
 -- any pair is right
 any-all : (e : ℕ) (w : List ℕ) → MayAll anyPair e w
 unfolding MayAll
@@ -48,16 +42,13 @@ within-from k (x ∷ w) h = (
 )
 
 -- the first block of numbers that say one block
+none-one : (b : Block) → _≡_ {A = List Block} [] (b ∷ []) → ⊥
+none-one b e = let z : _≡_ {A = ℕ} 0 1 = cc in omega arith
+
 pub first-block : (count : ℕ) (vs : List ℕ) (b : Block) → blocksIn (take count vs) ≡ b ∷ [] → blockIn (getD vs 0 0) ≡ b
 unfolding blocksIn
-first-block zero vs b q = absurd (none q)
-  where
-    none : _≡_ {A = List Block} [] (b ∷ []) → ⊥
-    none e = let z : _≡_ {A = ℕ} 0 1 = cc in omega arith
-first-block (suc count) [] b q = absurd (none q)
-  where
-    none : _≡_ {A = List Block} [] (b ∷ []) → ⊥
-    none e = let z : _≡_ {A = ℕ} 0 1 = cc in omega arith
+first-block zero vs b q = absurd (none-one b q)
+first-block (suc count) [] b q = absurd (none-one b q)
 first-block (suc count) (v ∷ vs) b q = cc
 
 module _ (b : Body Leaf) (w : List ℕ) (left : ℕ) (s : Spread b w left) where

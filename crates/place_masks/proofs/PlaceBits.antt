@@ -12,16 +12,8 @@ use borrow.Author.Tests.{le-leb, lt-leb, lt-ltb, le-ltb}
 use Rattle.masks.specs.Masks.{bit}
 use Rattle.facts.proofs.Cases.{below, clash, not-so}
 use Rattle.facts.proofs.Spans.{between-in}
-use Rattle.masks.proofs.Masks.{odd, bit-and, bit-xor, bit-past, bit-none, ones-bits}
+use Rattle.masks.proofs.Masks.{odd, bit-and, bit-xor, bit-past, bit-none, ones-bits, bit-inside}
 use Rattle.masks.proofs.Shifted.{bit-shr, bit-shl, bit-shl-low, bit-cut}
-
--- a number below 2 ^ n has its bits below n
-pub bit-inside : (n x e : ℕ) → x < 2 ^ n → bit x e ≡ true → e < n
-unfolding bit
-bit-inside n x e l h = ⊎-elim
-    (λ (q : e < n). q)
-    (λ (q : n ≤ e). absurd (clash h (ap (λ (z : ℕ). eqb (z % 2) 1) (div-eq-of-lt (lt-of-lt-of-le l (pow-mono q))))))
-    (below e n)
 
 pub bit-outside : (n x e : ℕ) → x < 2 ^ n → n ≤ e → bit x e ≡ false
 bit-outside n x e l k = not-so (bit x e) (λ h. let z = bit-inside n x e l h in omega arith)

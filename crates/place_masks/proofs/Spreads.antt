@@ -9,10 +9,10 @@ use lib.Count.{leadingZeros}
 use borrow.Author.Tests.{le-leb, leb-true, lt-ltb, ltb-true}
 use Rattle.masks.specs.Masks.{bit, Lowest}
 use Rattle.facts.proofs.Cases.{below, clash, and-left, and-right, both, one-of, or-left, or-right}
-use Rattle.masks.proofs.Masks.{bit-none, lowest-first, highest-last, leading-few, highest-bit}
+use Rattle.masks.proofs.Masks.{bit-none, lowest-first, highest-last, leading-few, highest-bit, bit-inside}
 use Rattle.masks.proofs.Shifted.{bit-shr}
 use Rattle.place_masks.specs.Places.{Ahead, Behind, Before, After}
-use Rattle.place_masks.proofs.PlaceBits.{bit-inside, bit-ones}
+use Rattle.place_masks.proofs.PlaceBits.{bit-ones}
 
 -- ---- one place more, or further
 pub before-none : {places : ℕ} (least most : ℕ) → ((p : ℕ) → Ahead places least most p → ⊥) → Before places least most 0

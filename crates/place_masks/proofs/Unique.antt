@@ -6,7 +6,7 @@ use borrow.Fn.Kinds.{Dens, resT, endedOf}
 use contract.Lifetimes.{Lfts}
 use denote.Triple.Clauses.{AtExit}
 use Rattle.masks.specs.Masks.{bit}
-use Rattle.facts.proofs.Cases.{clash, not-so}
+use Rattle.facts.proofs.Cases.{clash, not-so, same-test}
 use Rattle.masks.proofs.Masks.{bits-same, lowest-same, highest-same}
 use Rattle.place_masks.specs.Places.{Before, After}
 use Rattle.place_masks.proofs.up_to.Reads as up-to-reads
@@ -30,16 +30,11 @@ use Rattle.place_masks.proofs.before_spares.Kinds as before-spares-kind
 use Rattle.place_masks.proofs.after_spares.Reads as after-spares-reads
 use Rattle.place_masks.proofs.after_spares.Kinds as after-spares-kinds
 
--- two tests of which each holds where the other does are one
-pub tests-same : (s t : Bool) → (s ≡ true → t ≡ true) → (t ≡ true → s ≡ true) → s ≡ t
-tests-same true t f g = sym (f refl)
-tests-same false t f g = sym (not-so t (λ h. clash (g h) refl))
-
 before-same : (n least most r s : ℕ) → Before n least most r → Before n least most s → r ≡ s
-before-same n least most r s p q = bits-same r s (λ e. tests-same (bit r e) (bit s e) (λ h. q .all e (p .some e h)) (λ h. p .all e (q .some e h)))
+before-same n least most r s p q = bits-same r s (λ e. same-test (bit r e) (bit s e) (λ h. q .all e (p .some e h)) (λ h. p .all e (q .some e h)))
 
 after-same : (n least most r s : ℕ) → After n least most r → After n least most s → r ≡ s
-after-same n least most r s p q = bits-same r s (λ e. tests-same (bit r e) (bit s e) (λ h. q .all e (p .low e h) (p .some e h)) (λ h. p .all e (q .low e h) (q .some e h)))
+after-same n least most r s p q = bits-same r s (λ e. same-test (bit r e) (bit s e) (λ h. q .all e (p .low e h) (p .some e h)) (λ h. p .all e (q .low e h) (q .some e h)))
 
 pub up-to-unique : (κs : Lfts 0) (a : Dens κs up-to-kinds.ps) (r r' : resT up-to-kinds.r κs .Denot) (s s' : AtExit (endedOf 0 up-to-kinds.ps up-to-kinds.r) κs)
     → up-to-reads.Post κs a r s → up-to-reads.Post κs a r' s' → r ≡ r'

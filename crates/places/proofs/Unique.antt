@@ -8,9 +8,8 @@ use borrow.Fn.Kinds.{Dens, resT, endedOf}
 use contract.Lifetimes.{Lfts}
 use denote.Triple.Clauses.{AtExit}
 use Rattle.masks.specs.Masks.{bit}
-use Rattle.facts.proofs.Cases.{below}
+use Rattle.facts.proofs.Cases.{below, same-test}
 use Rattle.masks.proofs.Masks.{bits-same}
-use Rattle.place_masks.proofs.Unique.{tests-same}
 use Rattle.places.specs.Bytes.{AfterLast}
 use Rattle.places.proofs.before_one.Reads as before-one-reads
 use Rattle.places.proofs.before_one.Kinds as before-one-kinds
@@ -38,4 +37,4 @@ after-last-unique κs a r r' s s' p q = last-same p q
 
 pub before-group-unique : (κs : Lfts 1) (a : Dens κs before-group-kinds.ps) (r r' : resT before-group-kinds.r κs .Denot) (s s' : AtExit (endedOf 1 before-group-kinds.ps before-group-kinds.r) κs)
     → before-group-reads.Post κs a r s → before-group-reads.Post κs a r' s' → r ≡ r'
-before-group-unique κs a r r' s s' p q = bits-same r r' (λ e. tests-same (bit r e) (bit r' e) (λ h. q .all e (p .some e h)) (λ h. p .all e (q .some e h)))
+before-group-unique κs a r r' s s' p q = bits-same r r' (λ e. same-test (bit r e) (bit r' e) (λ h. q .all e (p .some e h)) (λ h. p .all e (q .some e h)))

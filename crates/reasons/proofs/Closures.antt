@@ -19,7 +19,8 @@ use Rattle.facts.proofs.Spans.{between-in, between-to}
 use Rattle.refining.specs.AsBytes.{fits, Partly}
 use Rattle.assign.specs.Widest.{Closed, Widest}
 use Rattle.facts.proofs.Counting.{count-le, count-less, double-count}
-use Rattle.refining.proofs.AsThirtyTwoBytes.{within-may, within-piece, fits-block, fits-within}
+use Rattle.chains.proofs.Chains.{within-may, within-piece}
+use Rattle.refining.proofs.AsThirtyTwoBytes.{fits-block, fits-within}
 use Rattle.reasons.specs.Reason.{matched, sizeOf, Group, Most, Reason}
 use Rattle.reasons.specs.Grow.{Grown}
 use Rattle.facts.proofs.CountedSets.{count-filled, places-in, places-on}

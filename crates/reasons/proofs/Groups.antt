@@ -11,7 +11,7 @@ use native.Mathlib.Omega.{arith}
 use lib.Dec.{eqb}
 use borrow.Author.Tests.{eq-eqb, ne-eqb}
 use Rattle.facts.specs.Counting.{between}
-use Rattle.facts.proofs.Cases.{same?, below, holds?, clash, not-so, and-left, and-right, both, one-of, or-left, or-right}
+use Rattle.facts.proofs.Cases.{same?, below, holds?, clash, not-so, and-left, and-right, both, one-of, or-left, or-right, same-test}
 use Rattle.facts.proofs.Spans.{between-in, between-to}
 use Rattle.blocks.specs.Assignment.{wanted}
 use Rattle.blocks.proofs.Assignments.{want-in, want-inv}
@@ -153,10 +153,6 @@ module _ (ok : ℕ → ℕ → Bool) (k n : ℕ) (few : k ≤ 32) where
       )
 
 -- ---- and only one
-pub same-test : (a b : Bool) → (a ≡ true → b ≡ true) → (b ≡ true → a ≡ true) → a ≡ b
-same-test true b up down = sym (up refl)
-same-test false b up down = sym (not-so b (λ t. clash (down t) refl))
-
 module _ {ok : ℕ → ℕ → Bool} {k n : ℕ} where
   pub reason-same : {G H : ℕ → Bool} → Reason ok k n G → Reason ok k n H → (v : ℕ) → G v ≡ H v
   reason-same {G} {H} g h v = same-test (G v) (H v) (g .least H (h .most) v) (h .least G (g .most) v)

@@ -1,5 +1,5 @@
 -- The ones of a mask are the numbers in it. Assumes nothing.
--- mask-low: a mask below 2 ^ d has no number from d on. ones-count: its ones are counted. joining-start, joining-skip, joining-more,
+-- ones-count: the ones of a mask are counted. joining-start, joining-skip, joining-more,
 -- joining-done: the elements that a group matches, one by one.
 use mathlib.Core.Path.{_≡_, refl, sym, ap, _∙_, subst}
 use mathlib.Core.Logic.{_⊎_, ⊎-elim}
@@ -14,21 +14,17 @@ use lib.ListN.{getD}
 use Rattle.facts.specs.Counting.{oneIf, count}
 use Rattle.masks.specs.Masks.{bit, Plus, Meets}
 use Rattle.rows.specs.Rows.{may}
-use Rattle.facts.proofs.Cases.{same?, below, clash, hit, miss}
-use Rattle.masks.proofs.Masks.{bit-half, bit-low, bit-none, bit-past}
+use Rattle.facts.proofs.Cases.{same?, below, clash, hit, miss, same-test}
+use Rattle.masks.proofs.Masks.{bit-half, bit-low, bit-none, bit-past, bit-inside}
 use Rattle.rows.proofs.Rows.{row-may}
 use Rattle.facts.proofs.CountedSets.{count-same}
-use Rattle.reasons.proofs.Groups.{met, met-in, met-low, met-inv, same-test}
+use Rattle.reasons.proofs.Groups.{met, met-in, met-low, met-inv}
 
 one-low : (a : ℕ) → oneIf (bit a 0) ≡ a % 2
 one-low a =
     let e = ap oneIf (bit-low a) in
     let d : a % 2 < 2 = mod-lt a (lit< tt) in
     ⊎-elim (λ (q : a % 2 ≡ 1). let h = hit (a % 2) 1 q in omega arith) (λ (q : a % 2 ≡ 1 → ⊥). let h = miss (a % 2) 1 q in omega arith) (same? (a % 2) 1)
-
--- a mask below 2 ^ d has no number from d on
-mask-low : (d a v : ℕ) → a < 2 ^ d → bit a v ≡ true → v < d
-mask-low d a v small t = ⊎-elim (λ (l : v < d). l) (λ (l : d ≤ v). absurd (clash t (subst (λ (x : ℕ). bit x v ≡ false) (mod-eq-of-lt small) (bit-past d a v l)))) (below v d)
 
 -- the lowest number apart
 count-low : (P : ℕ → Bool) (n : ℕ) → count P (suc n) ≡ oneIf (P 0) + count (λ v. P (suc v)) n
@@ -86,7 +82,7 @@ joining-done {rows} {group} {n} {r} small j e = same-test (bit r e) (met (may ro
     (λ t.
     let l : e < n = ⊎-elim (λ (z : e < n). z) (λ (z : n ≤ e). absurd (clash t (j .beyond e z))) (below e n) in
     let f = j .right e l t in
-    met-in (may rows) n (bit group) (f .0) e l (mask-low 32 group (f .0) small (f .2)) (f .2) (sym (row-may rows (f .0) e) ∙ f .1))
+    met-in (may rows) n (bit group) (f .0) e l (bit-inside 32 group (f .0) small (f .2)) (f .2) (sym (row-may rows (f .0) e) ∙ f .1))
     (λ t.
     let f = met-inv (may rows) n (bit group) e t in
     j .all e (f .0) (met-low (may rows) n (bit group) e t) (row-may rows (f .0) e ∙ f .3) (f .2))

@@ -17,17 +17,10 @@ use Rattle.refining.specs.Refine.{Tries, Around, Moves}
 use Rattle.facts.proofs.Cases.{same?, below, holds?, clash, not-so, and-left, and-right, both, hit, miss}
 use Rattle.facts.proofs.Spans.{between-in, between-from, between-to}
 use Rattle.facts.proofs.Counting.{cnt-set, cnt-at, cnt-place, cnt-two, cnt-replicate}
+use Rattle.chains.proofs.Chains.{within-may, within-piece}
 use Rattle.chains.proofs.Blocked.{blocked-short}
 
 -- ---- what fits
-pub within-may : (may : ℕ → ℕ → Bool) (from to v e : ℕ) → within may from to v e ≡ true → may v e ≡ true
-unfolding within
-within-may may from to v e = and-left (may v e) (between from to e)
-
-pub within-piece : (may : ℕ → ℕ → Bool) (from to v e : ℕ) → within may from to v e ≡ true → between from to e ≡ true
-unfolding within
-within-piece may from to v e = and-right (may v e) (between from to e)
-
 pub within-in : (may : ℕ → ℕ → Bool) (from to v e : ℕ) → may v e ≡ true → from ≤ e → e < to → within may from to v e ≡ true
 unfolding within
 within-in may from to v e r f t = both (may v e) (between from to e) r (between-in from to e f t)

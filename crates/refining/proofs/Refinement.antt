@@ -13,7 +13,8 @@ use Rattle.refining.specs.Refine.{Rival, Candidates, Agrees, Tries, Goin
 use Rattle.facts.proofs.Cases.{below, holds?, clash}
 use Rattle.facts.proofs.Spans.{between-from, between-to}
 use Rattle.facts.proofs.Counting.{cnt-at}
-use Rattle.refining.proofs.AsThirtyTwoBytes.{Asks, dealt-block, fits-block, fits-within, within-may, within-piece}
+use Rattle.chains.proofs.Chains.{within-may, within-piece}
+use Rattle.refining.proofs.AsThirtyTwoBytes.{Asks, dealt-block, fits-block, fits-within}
 
 -- a byte of an assignment: 255, or a member of the block that may take the element
 pub byte : {may : ℕ → ℕ → Bool} {first k from to : ℕ} {a : List ℕ} → Dealt may first k from to a → (e : ℕ) → e < 32

@@ -22,9 +22,10 @@ use Rattle.facts.proofs.Cases.{same?, below, holds?, clash, not-so, and-left, a
 use Rattle.facts.proofs.Spans.{between-in, between-from, between-to}
 use Rattle.facts.proofs.Counting.{cnt-set, cnt-at, cnt-place, cnt-two}
 use Rattle.rows.proofs.Rows.{turned-says}
-use Rattle.chains.proofs.Chains.{flipped-out, reach-row, reach-open, within-both, held-inv, open-in}
+use Rattle.masks.proofs.OneByOne.{flipped-out}
+use Rattle.chains.proofs.Chains.{reach-row, reach-open, within-both, held-inv, open-in, within-may, within-piece}
 use Rattle.chains.proofs.Blocked.{blocked-never, stuck-blocked}
-use Rattle.refining.proofs.AsThirtyTwoBytes.{dealt-fits, dealt-block, dealt-one, fits-block, fits-within, within-in, within-may, within-piece}
+use Rattle.refining.proofs.AsThirtyTwoBytes.{dealt-fits, dealt-block, dealt-one, fits-block, fits-within, within-in}
 use Rattle.refining.proofs.Refinement.{byte, going-done, dealt-outside, leads-step}
 
 -- ---- the members of the block that stand nowhere before e

@@ -18,7 +18,7 @@ use Rattle.grammar.specs.Members.{memberHits}
 use Rattle.grammar.specs.Read.{Read, got, orRefuse, refuseOr, verdict}
 use Rattle.grammar.specs.Template.{Template, template, membersOf}
 use Rattle.grammar.specs.Whole.{readTemplate}
-use Rattle.grammar.proofs.MemberLimit.{accepted-few}
+use Rattle.grammar.proofs.MemberLimit.{accepted-few, accepted-short}
 use Rattle.grammar.proofs.ReadApart.{clash}
 use Rattle.grammar.proofs.RefusalNumbers.{Cases, isRefused, isRead, read-cases}
 use Rattle.matching.specs.Answer.{given, written, matchRead, matchAnswer}
@@ -99,13 +99,6 @@ obeys-bytes t (template a b) xs w q h =
 
 -- ---- the line of a list
 
-template-short : (t : List ℕ) (s : Template Leaf) → readTemplate leafHead t ≡ got s [] → length t ≤ 4096
-unfolding readTemplate
-template-short t s q =
-    by-test (ltb 4096 (length t))
-    (λ (e : ltb 4096 (length t) ≡ true). absurd (clash (rw e at q)))
-    (λ (e : ltb 4096 (length t) ≡ false). ltb-false 4096 (length t) e)
-
 module _ (k n : ℕ) (few : n ≤ 32) where
   matched-size : (w : List ℕ) → length w ≡ n → length (spaced w) ≤ 4 * length w → length (answered k n (given 0 (w ++ drop (length w) emptyRoom))) ≤ length (decimal k) + 5 + 5 * n
   unfolding answered
@@ -138,7 +131,7 @@ list-line-size t k xs accepted few = by-reading (read-cases t)
     by-reading : Cases (readTemplate leafHead t) → length (answered k (length xs) (matchAnswer t xs emptyRoom)) ≤ length (decimal k) + 5 + 5 * length xs
     by-reading (isRefused r q more) = let z = sym accepted ∙ ap verdict q in absurd (omega arith)
     by-reading (isRead s q) =
-        let answer : matchAnswer t xs emptyRoom ≡ written (firstWitness s xs) emptyRoom = reads t xs emptyRoom (template-short t s q, few) few ∙ ap (λ o. matchRead o xs emptyRoom) q in
+        let answer : matchAnswer t xs emptyRoom ≡ written (firstWitness s xs) emptyRoom = reads t xs emptyRoom (accepted-short leafHead t s q, few) few ∙ ap (λ o. matchRead o xs emptyRoom) q in
         rw answer (by-witness s q (firstWitness s xs) refl)
 
 -- ---- a turn

@@ -1,5 +1,5 @@
 -- From the plan to the group. Assumes nothing.
--- accepted-short: an accepted template has at most 4,096 bytes. group-many, group-refused: where a row of the table holds there is none. group-by: else what the plan's template and the list ask.
+-- group-many, group-refused: where a row of the table holds there is none. group-by: else what the plan's template and the list ask.
 -- unmet-asks, other-asks, superset-asks, subset-asks: that, by the length, the kind and the rows; group-unmet, group-other, group-superset,
 -- group-subset: the same by the plan. neither, the-other: what the test of the kind says.
 use mathlib.Core.Path.{_≡_, refl, sym, ap, _∙_, subst}
@@ -22,6 +22,7 @@ use Rattle.grammar.specs.Whole.{readTemplate}
 use Rattle.grammar.specs.Blocks.{bodyKind, Standing}
 use Rattle.grammar.specs.Matches.{matches}
 use Rattle.grammar.specs.Members.{memberHits}
+use Rattle.grammar.proofs.MemberLimit.{accepted-short}
 use Rattle.plans.specs.Plans.{Planned, PlanOf, refusedPlan, aPlan}
 use Rattle.plans.specs.declared.Plan.{Plan}
 use Rattle.member_rows.specs.Contract.{RowsOf}
@@ -33,14 +34,6 @@ use Rattle.reasons.specs.Reason.{Given}
 use Rattle.reasons.proofs.Groups.{given-agree}
 use Rattle.why.specs.Why.{pairs, ofNothing, askedBy, askedOf}
 use Rattle.why.specs.Contract.{Grouped, GroupFor}
-
-accepted-short : (t : List ℕ) (s : Template Leaf) → readTemplate leafHead t ≡ got s [] → length t ≤ 4096
-unfolding readTemplate
-accepted-short t s q =
-    ⊎-elim
-    (λ (l : 4096 < length t). let e : readTemplate leafHead t ≡ refuse 2 = rw (lt-ltb 4096 (length t) l) in absurd (clash-read (sym e ∙ q)))
-    (λ (l : length t ≤ 4096). l)
-    (below 4096 (length t))
 
 -- ---- no group
 module _ (t : List ℕ) (xs : List ℤ) where
@@ -58,7 +51,7 @@ module _ (t : List ℕ) (xs : List ℤ) where
   pub group-by : (p : Plan) (g : ℕ) → PlanOf t p → length xs ≤ 32 → p .number ≡ 0 → ((a : Length) (b : Body Leaf) → Planned t a b p → Grouped (askedOf (template a b) xs) g) → GroupFor t xs g
   group-by p g (refusedPlan r q z e) k n h = let y : r ≡ 0 = sym (ap (λ (x : Plan). x .number) e) ∙ n in absurd (omega arith)
   group-by p g (aPlan a b q z pl) k n h = record {
-    accepted = λ some. (template a b, (accepted-short t (template a b) q, k), q);
+    accepted = λ some. (template a b, (accepted-short leafHead t (template a b) q, k), q);
     group = λ k s e. let same : template a b ≡ s = cc in subst (λ (s : Template Leaf). Grouped (askedOf s xs) g) same (h a b pl);
   }
 

@@ -15,7 +15,8 @@ use Rattle.facts.specs.Counting.{count}
 use Rattle.chains.specs.Chain.{Ready, Settled}
 use Rattle.facts.proofs.Counting.{count-le}
 use Rattle.rows.proofs.Rows.{row-bits, row-none}
-use Rattle.chains.proofs.Chains.{Walk, left-falls, flipped-down, reach-free, walk-start, walk-stuck, turn-served, finish, give-spare, filled-spare, filled-chain, settled-found, settled-none}
+use Rattle.masks.proofs.OneByOne.{left-falls, flipped-down}
+use Rattle.chains.proofs.Chains.{Walk, reach-free, walk-start, walk-stuck, turn-served, finish, give-spare, filled-spare, filled-chain, settled-found, settled-none}
 use Rattle.chains.proofs.settle.Reads as settle
 use Rattle.chains.proofs.settle.Kinds as settle-kinds
 use Rattle.chains.proofs.+settle.Lts-settle as lts

@@ -7,7 +7,7 @@ use Rattle.masks.specs.Masks.{bit}
 use Rattle.rows.specs.Rows.{picks}
 use Rattle.facts.specs.Counting.{count}
 use Rattle.masks.proofs.Masks.{bit-or, bit-xor, and-bits, and-none}
-use Rattle.chains.proofs.Chains.{left-falls}
+use Rattle.masks.proofs.OneByOne.{left-falls}
 use Rattle.chains.proofs.Explorations.{Exploring, exploring-start, exploring-turn, explored-found, explored-stuck, common}
 use Rattle.chains.proofs.explore.Statement.{statement}
 use Rattle.chains.proofs.explore.Tie as tie

@@ -1,6 +1,6 @@
 -- `before_spares` meets its contract: moved by the least number of elements, then spread by the rest. Assumes nothing.
 use Prim.Native.Nat.{_-_}
-use Rattle.place_masks.proofs.PlaceBits.{bit-inside}
+use Rattle.masks.proofs.Masks.{bit-inside}
 use Rattle.place_masks.proofs.Spreads.{before-none, before-moved}
 use native.Mathlib.Omega.{arith}
 use borrow.Author.Needs.{needs}

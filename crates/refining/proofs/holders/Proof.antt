@@ -8,7 +8,7 @@ use Rattle.masks.specs.Masks.{bit}
 use Rattle.facts.specs.Counting.{count}
 use Rattle.chains.specs.Chain.{Holders}
 use Rattle.masks.proofs.Masks.{bit-none}
-use Rattle.chains.proofs.Chains.{left-falls, flipped-down}
+use Rattle.masks.proofs.OneByOne.{left-falls, flipped-down}
 use Rattle.refining.proofs.WhoCanHave.{holders-none, holders-more, holders-same}
 use Rattle.refining.proofs.holders.Statement.{statement}
 use Rattle.refining.proofs.holders.Tie as tie

@@ -15,7 +15,8 @@ use Rattle.chains.specs.Chain.{Spares, Ready, within, Served}
 use Rattle.refining.specs.AsBytes.{Partly}
 use Rattle.facts.proofs.Cases.{below, clash}
 use Rattle.masks.proofs.Masks.{bit-none}
-use Rattle.chains.proofs.Chains.{left-falls, ready, held-inv, open-in, served-within, spares-filled}
+use Rattle.masks.proofs.OneByOne.{left-falls}
+use Rattle.chains.proofs.Chains.{ready, held-inv, open-in, served-within, spares-filled}
 use Rattle.chains.proofs.Explorations.{explored-ready, explored-never}
 use Rattle.chains.proofs.Blocked.{holders-of, stuck-blocked}
 use Rattle.refining.proofs.AsThirtyTwoBytes.{partly-done, partly-served, partly-short}

@@ -14,7 +14,8 @@ use Rattle.facts.specs.Counting.{count}
 use Rattle.chains.specs.Chain.{Spares}
 use Rattle.refining.specs.AsBytes.{Partly}
 use Rattle.masks.proofs.Masks.{bit-none}
-use Rattle.chains.proofs.Chains.{left-falls, held-inv, open-in, spares-filled}
+use Rattle.masks.proofs.OneByOne.{left-falls}
+use Rattle.chains.proofs.Chains.{held-inv, open-in, spares-filled}
 use Rattle.assign.proofs.AsManyAsCan.{Held, held-filled, Wide, wide-start, wide-served, wide-stuck, wide-done}
 use Rattle.assign.proofs.widest.serve_all.Statement.{statement}
 use Rattle.assign.proofs.widest.serve_all.Tie as tie
