@@ -7,10 +7,11 @@ use mathlib.Core.Bool.{Bool, true, false, not, _||_}
 use mathlib.Core.List.{List}
 use Prim.Native.Nat.{ℕ, _+_, _≤_, _<_}
 use native.Mathlib.Omega.{arith}
+use lib.Dec.{eqb}
 use lib.Bits.{bitAnd, bitXor}
 use lib.ListN.{length, getD, set, length-set}
 use lib.Seq.{getD-set-same, getD-set-other}
-use Rattle.facts.specs.Counting.{between, cnt, count}
+use Rattle.facts.specs.Counting.{between, cnt, count, oneIf}
 use Rattle.masks.specs.Masks.{bit, Plus, Flipped}
 use Rattle.chains.specs.Chain.{Spares, Ready, reach, within, Served, Filled, Shut, Stuck, Settled}
 use Rattle.facts.proofs.Cases.{same?, below, holds?, clash, not-so, and-left, and-right, both, one-of, or-left, or-right, hit, miss}
@@ -120,34 +121,20 @@ give-chain : {ok : ℕ → ℕ → Bool} {w x : List ℕ} {m : ℕ} (e : ℕ) �
     → getD x e 0 ≡ getD w e 0 → Served ok w (getD w e 0) x → Served ok w m (set x e m)
 give-chain {ok} {w} {x} {m} e size member mine within there s =
     let fits : e < length x = let a = s .size in omega arith in
+    let kept : (v : ℕ) → v < 32 → cnt v (set x e m) ≡ cnt v w + oneIf (eqb m v) = λ v l. let a = cnt-set v x e m fits in ⊎-elim
+    (λ (q : v ≡ getD w e 0).
+    let b = hit (getD x e 0) v (there ∙ sym q) in
+    let d : cnt v x ≡ cnt v w + 1 = subst (λ (u : ℕ). cnt u x ≡ cnt u w + 1) (sym q) (s .more) in
+    omega arith)
+    (λ (q : v ≡ getD w e 0 → ⊥).
+    let b = miss (getD x e 0) v (λ r. q (sym r ∙ there)) in
+    let d = s .others v l q in
+    omega arith)
+    (same? v (getD w e 0)) in
     record {
       size = length-set x e m ∙ s .size;
-      more =
-          let a = cnt-set m x e m fits in
-          let c = hit m m refl in
-          ⊎-elim
-          (λ (q : m ≡ getD w e 0).
-          let b = hit (getD x e 0) m (there ∙ sym q) in
-          let d : cnt m x ≡ cnt m w + 1 = subst (λ (v : ℕ). cnt v x ≡ cnt v w + 1) (sym q) (s .more) in
-          omega arith)
-          (λ (q : m ≡ getD w e 0 → ⊥).
-          let b = miss (getD x e 0) m (λ r. q (sym r ∙ there)) in
-          let d = s .others m member q in
-          omega arith)
-          (same? m (getD w e 0));
-      others = λ v l n.
-          let a = cnt-set v x e m fits in
-          let c = miss m v (λ q. n (sym q)) in
-          ⊎-elim
-          (λ (q : v ≡ getD w e 0).
-          let b = hit (getD x e 0) v (there ∙ sym q) in
-          let d : cnt v x ≡ cnt v w + 1 = subst (λ (u : ℕ). cnt u x ≡ cnt u w + 1) (sym q) (s .more) in
-          omega arith)
-          (λ (q : v ≡ getD w e 0 → ⊥).
-          let b = miss (getD x e 0) v (λ r. q (sym r ∙ there)) in
-          let d = s .others v l q in
-          omega arith)
-          (same? v (getD w e 0));
+      more = let a = kept m member in let c = hit m m refl in omega arith;
+      others = λ v l n. let a = kept v l in let c = miss m v (λ q. n (sym q)) in omega arith;
       moved = λ k. ⊎-elim
           (λ n. ⊎-elim (λ q. inl (getD-set-other x e k m 0 n ∙ q)) (λ o. inr (rw (getD-set-other x e k m 0 n) o)) (s .moved k))
           (λ t. inr (rw (t .1, t .0) mine))
