@@ -9,8 +9,8 @@
 -- MatchGiven t xs room r after <-> what demand 1 asks of the matcher's number r and of the room afterwards
 -- JudgeGiven t xs w r <-> what demand 1 asks of the judge's number r
 -- NormalGiven t room n l after <-> what demand 1 asks of the normaliser's number n, length l and of the room afterwards
--- Demand1 <-> every call gets one answer, a number exactly where the table and its order call for it, and only the bytes named change; bytes are
---             accepted or refused, and by which numbers
+-- Demand1 <-> of every call: a number exactly where the table and its order call for it, and only the bytes named change; bytes are accepted or
+--             refused, and by which numbers. That there is one answer only is said by the uniqueness laws of the entry points
 -- MatchedExactly xs s r after, JudgedExactly xs s w r <-> what demand 2 asks of the matcher and of the judge, for the template s
 -- Demand2 <-> refusals apart, a match is given exactly when some assignment obeys, and then the first in byte order stands in the room; the judge
 --             passes exactly what obeys, whoever made it

@@ -3,7 +3,7 @@
 -- leafRanges l   == those of the leaf l
 -- rangesOf e     == those of the element template e
 -- rangesOfAll es == those of what at least one of es matches
--- That they are the maximal ranges of what `matches` says is the claim `Maximal` of crate `demands`.
+-- That they are the maximal ranges of what `matches` says is a part of demand 3 (`MaximalRanges` of crate `demands`).
 -- Assumes nothing: these are definitions.
 use mathlib.Core.List.{List, [], _∷_}
 use Rattle.grammar.specs.Element.{Elem, leaf, oneOf, noneOf, Elems, none, more}

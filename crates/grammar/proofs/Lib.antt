@@ -4,10 +4,12 @@
 -- ReadApart      == what was read, taken apart: the parts of an element template, and where they stand
 -- LeafBounds     == a leaf matches what lies between its bounds
 -- RefusalNumbers == which numbers a refusal can have
--- MemberLimit    == what was accepted has at most 32 members
+-- MemberLimit    == what was accepted has at most 4,096 bytes and 32 members
+-- Members        == the numbers of members
 mod Examples
 pub mod RecordParts
 pub mod ReadApart
 pub mod LeafBounds
 pub mod RefusalNumbers
 pub mod MemberLimit
+pub mod Members

@@ -18,6 +18,7 @@ use Rattle.grammar.specs.Template.{template, Length, Body, membersOf}
 use Rattle.grammar.specs.Matches.{matches}
 use Rattle.grammar.specs.Members.{memberHits}
 use Rattle.grammar.specs.Blocks.{Standing}
+use Rattle.grammar.proofs.Members.{hits-low}
 use Rattle.plans.specs.declared.Plan.{Plan}
 use Rattle.plans.specs.Plans.{PlanOf}
 use Rattle.pairs.specs.Pairs.{Right, Left, Paired, right, wrong}
@@ -25,7 +26,7 @@ use Rattle.obeying.specs.Spread.{Says, Spread}
 use Rattle.matching.specs.Obeys.{spare, rightBytes, noneTwice, bodyMet, lengthMet, obeysBy, obeys, Obeys}
 use Rattle.matching.specs.Answer.{judgeAnswer, Taken}
 use Rattle.matching.proofs.Answers.{judged}
-use Rattle.matching.proofs.RulesByBlocks.{hits-low, twice-test, twice-says}
+use Rattle.matching.proofs.RulesByBlocks.{twice-test, twice-says}
 use Rattle.matcher.proofs.ByPlan.{Ready, planned-ready, length-by}
 
 -- ---- the bytes, one by one

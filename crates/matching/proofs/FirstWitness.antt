@@ -17,8 +17,8 @@ use Rattle.grammar.specs.Leaf.{Leaf}
 use Rattle.grammar.specs.Template.{Template, template, membersOf}
 use Rattle.grammar.specs.Matches.{matches}
 use Rattle.grammar.specs.Members.{memberHits}
+use Rattle.grammar.proofs.Members.{hits-low}
 use Rattle.matching.specs.Obeys.{spare, rightBytes, noneTwice, bodyMet, lengthMet, obeysBy, obeys, Obeys}
-use Rattle.matching.proofs.RulesByBlocks.{hits-low}
 use Rattle.matching.specs.Search.{Maybe, nothing, just, put, orElse, tryEach, firstOf, from, bytesOf, membersCount, firstWitness}
 
 -- ---- bytes out of an ascending list

@@ -22,6 +22,7 @@ use Rattle.grammar.specs.Element.{Elem}
 use Rattle.grammar.specs.Template.{grouped, Item, one, spares, permutation, Body, recordOf, setOf, superset, subset, Length, template, membersOfGroup, membersOfItem, membersOfItems, membersOf}
 use Rattle.grammar.specs.Members.{memberHits}
 use Rattle.grammar.specs.Blocks.{minOf, maxOf, blockOfGroup, blockOfItem, blocksOfItems, blocksOf}
+use Rattle.grammar.proofs.Members.{hits-low}
 use Rattle.blocks.specs.Numbers.{block}
 use Rattle.matching.specs.Obeys.{spare, rightBytes, noneTwice, someCut, cuts, itemTakes, bodyMet, lengthMet, obeysBy}
 use Rattle.matching.proofs.ItemsAsBlocks.{MayByte, MayAll, may-append, may-left, may-right, Within, Once, length-once, cnt-outside, Piece, PieceOf, takes-piece, piece-takes, group-says, group-test, item-says, item-test}
@@ -31,13 +32,6 @@ use Rattle.matching.proofs.ItemsAsBlocks.{MayByte, MayAll, may-append, 
 unfoldable pub Agree : {L X : Type 0} → (Elem L → X → Bool) → List (Elem L) → ℕ → List X → (ℕ → ℕ → Bool) → Type 0
 Agree hits es e [] may = Unit {0}
 Agree hits es e (x ∷ xs) may = ((m : ℕ) → may m e ≡ memberHits hits es m x) × Agree hits es (suc e) xs may
-
--- a member's number that hits is below the number of members
-pub hits-low : {L X : Type 0} (hits : Elem L → X → Bool) (gs : List (Elem L)) (m : ℕ) (x : X) → memberHits hits gs m x ≡ true → m < length gs
-unfolding memberHits
-hits-low hits [] m x h = absurd (mathlib.Core.Bool.true≢false (sym h))
-hits-low hits (g ∷ gs) zero x h = omega arith
-hits-low hits (g ∷ gs) (suc m) x h = let ih = hits-low hits gs m x h in omega arith
 
 module _ {L X : Type 0} (hits : Elem L → X → Bool) (es : List (Elem L)) (may : ℕ → ℕ → Bool) where
   pub right-says : (e : ℕ) (xs : List X) (w : List ℕ) → Agree hits es e xs may → rightBytes hits es xs w ≡ true → MayAll may e w × (length w ≡ length xs)

@@ -4,7 +4,7 @@
 -- orElse r s      == r where there is one, else s
 -- tryEach f bs    == the first of f b, for b in bs, where there is one
 -- firstOf n bs P  == the first, in byte order, of the lists of n bytes out of bs (ascending) of which P holds, or nothing
--- from m n        == m, m + 1, .. : n numbers
+-- from m n        == m, m + 1, .. : n numbers, and 255 after them
 -- bytesOf k       == the numbers of k members, and 255, ascending
 -- membersCount t == how many members t has
 -- firstWitness t xs == the first witness in byte order that obeys, or nothing

@@ -20,7 +20,7 @@ use Rattle.grammar.specs.Element.{Elem}
 use Rattle.grammar.specs.Leaf.{Leaf}
 use Rattle.grammar.specs.Matches.{matches}
 use Rattle.grammar.specs.Members.{memberHits}
-use Rattle.matching.proofs.RulesByBlocks.{hits-low}
+use Rattle.grammar.proofs.Members.{hits-low}
 use Rattle.pairs.specs.Pairs.{Right, Left, Paired, right}
 
 pub record Going (es : List (Elem Leaf)) (xs : List ℤ) (w : List ℕ) (e left : ℕ) : Type 0 where

@@ -21,12 +21,12 @@ use Rattle.grammar.specs.Whole.{readTemplate}
 use Rattle.grammar.proofs.MemberLimit.{accepted-few, accepted-short}
 use Rattle.grammar.proofs.ReadApart.{clash}
 use Rattle.grammar.proofs.RefusalNumbers.{Cases, isRefused, isRead, read-cases}
+use Rattle.grammar.proofs.Members.{hits-low}
 use Rattle.matching.specs.Answer.{given, written, matchRead, matchAnswer}
 use Rattle.matching.specs.Obeys.{spare, rightBytes, noneTwice, bodyMet, lengthMet, obeysBy, obeys}
 use Rattle.matching.specs.Search.{Maybe, nothing, just, firstWitness}
 use Rattle.matching.proofs.Answers.{few-members, reads}
 use Rattle.matching.proofs.FirstWitness.{first-witness, obeys-size}
-use Rattle.matching.proofs.RulesByBlocks.{hits-low}
 use Rattle.lines.specs.Line.{decimal, spaceThen, spaced, line}
 use Rattle.lines.proofs.Lines.{byte-next, digit-next, count-next, line-length}
 use Rattle.stream.specs.Input.{recordFault, templateSize, afterTemplate, templateIn, reached}

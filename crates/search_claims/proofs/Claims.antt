@@ -1,22 +1,28 @@
 -- The claims of specs/Claims.antt, proved: each cites laws of the crates below. Assumes nothing.
 use mathlib.Core.Path.{_≡_, refl, sym, ap, _∙_, subst, fun-ext}
-use mathlib.Core.Bool.{Bool}
+use mathlib.Core.Logic.{inl, inr, ⊎-elim}
+use mathlib.Core.Bool.{Bool, true}
 use mathlib.Core.List.{List}
-use Prim.Native.Nat.{ℕ, _≤_}
+use Prim.Native.Nat.{ℕ, _≤_, _+_}
 use native.Mathlib.Omega.{arith}
-use lib.ListN.{length, take, length-take}
+use native.Mathlib.Nat.{zero-add}
+use lib.ListN.{length, take, length-take, getD}
 use lib.Seq.{slice}
 use lib.IntN.{ℤ}
 use Rattle.facts.proofs.Cases.{not-so}
 use Rattle.rows.specs.Rows.{may, picks}
 use Rattle.blocks.specs.Pieces.{Cuts, Fills, Passing, Cutting, Filling}
 use Rattle.blocks.proofs.Assignments.{assigns-test, test-assigns, short-never}
-use Rattle.blocks.proofs.FirstLists.{best-found, best-unique, passing-holds, passing-unique}
+use Rattle.blocks.proofs.FirstLists.{best-found, best-unique, passing-holds, passing-unique, best-same}
 use Rattle.assign.proofs.Answers.{answer-complete, answer-unique}
 use Rattle.grammar.specs.Element.{Elem}
 use Rattle.grammar.specs.Leaf.{Leaf}
 use Rattle.member_rows.proofs.Agreeing.{Says, rows-say, says-same}
-use Rattle.search_claims.specs.Claims.{Sound, Complete, Least, Unique, Explained, Tested, UniqueCut, UniqueFilling, CutPasses, CutFound, FillingPasses, FillingFound, NothingChanges, ColumnsOf, SameOfEveryPair}
+use Rattle.judging.specs.Reach.{anyPair}
+use Rattle.records.specs.Records.{pairOf}
+use Rattle.records.proofs.RowsAndPairs.{same-pairs}
+use Rattle.search_claims.specs.Claims.{Sound, Complete, Least, Unique, Explained, Tested, UniqueCut, UniqueFilling, CutPasses, CutFound, FillingPasses, FillingFound, NothingChanges, ColumnsOf, SameOfEveryPair, PairsOrRows, PairsApart}
+use Rattle.search_claims.proofs.OtherPairs.{cuts-by, cuts-agree, cuts-right}
 
 -- ---- assignments
 pub sound : Sound
@@ -76,6 +82,29 @@ nothingChanges rows cols same bs k n found found' passed passed' w w' =
       λ p q. passing-unique (subst (λ (r : ℕ → ℕ → Bool). Passing (Cuts r bs 0 n w) passed) one p) q,
       λ p q. passing-unique (subst (λ (r : ℕ → ℕ → Bool). Passing (Fills r k n w) passed) one p) q,
     )
+
+pub pairsOrRows : PairsOrRows
+pairsOrRows es xs rows r bs found found' w w' b c =
+    let there = cuts-agree (pairOf es xs) (may rows) (length xs) bs (λ m e l. sym (same-pairs r m e l)) in
+    let back = cuts-agree (may rows) (pairOf es xs) (length xs) bs (same-pairs r) in
+    best-unique (best-same there back b) c
+
+pub pairsApart : PairsApart
+pairsApart may bs w any passed p q = (
+  λ h. let c = q .passed h in (
+    passing-holds p (cuts-by may anyPair bs 0 (length w) w (λ i l _ _. refl) c),
+    λ e l. ⊎-elim
+        (λ (z : getD w e 0 ≡ 255). inl z)
+        (λ (z : may (getD w e 0) (0 + e) ≡ true). inr (subst (λ (x : ℕ). may (getD w e 0) x ≡ true) (zero-add e) z))
+        (cuts-right may bs 0 (length w) w c e l),
+  ),
+  λ h right. passing-holds q (cuts-by anyPair may bs 0 (length w) w
+      (λ i l n _. ⊎-elim
+      (λ (z : getD w i 0 ≡ 255). absurd (n z))
+      (λ (z : may (getD w i 0) i ≡ true). subst (λ (x : ℕ). may (getD w i 0) x ≡ true) (sym (zero-add i)) z)
+      (right i l))
+      (p .passed h)),
+)
 
 -- ---- rows
 columns-say : {es : List (Elem Leaf)} {xs : List ℤ} {cols : List ℕ} → ColumnsOf es xs cols → Says es xs (picks cols)

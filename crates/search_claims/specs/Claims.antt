@@ -14,11 +14,14 @@
 -- FillingFound  <-> where some list passes the test of a filling, one is found, and the list does not come before it
 -- NothingChanges <-> "no answer or witness changes" (document 02, Four): where rows by member and rows by element say the same of every pair, what they promise
 --   is the same, the cut and the filling that are found, byte for byte, and whether an offered list passes
+-- PairsOrRows <-> so it is with the pairs themselves, by which a record of is searched: rows of the same members and list have the same first cut, byte for byte
+-- PairsApart <-> a list passes as a cut exactly where it passes with any pairs and each member in it may take its element: the judge tests the two apart
 -- ColumnsOf es xs cols <-> bit e of the row of m says whether member m of es matches element e of xs; every other bit is clear: rows by member
 -- SameOfEveryPair <-> "both say the same of every pair" (document 02, Four): rows by element and rows by member, of the same members and list
 -- Assumes nothing: these are statements.
 use mathlib.Core.Path.{_≡_}
 use mathlib.Core.Bool.{Bool, true, false}
+use mathlib.Core.Logic.{_⊎_}
 use mathlib.Core.List.{List}
 use Prim.Native.Nat.{ℕ, _+_, _-_, _≤_, _<_}
 use lib.ListN.{length, getD, take}
@@ -35,6 +38,8 @@ use Rattle.grammar.specs.Leaf.{Leaf}
 use Rattle.grammar.specs.Matches.{matches}
 use Rattle.grammar.specs.Members.{memberHits}
 use Rattle.member_rows.specs.Contract.{RowsOf}
+use Rattle.judging.specs.Reach.{anyPair}
+use Rattle.records.specs.Records.{pairOf}
 
 -- ---- assignments
 abbrev pub Sound : Type 0
@@ -92,6 +97,15 @@ NothingChanges = (rows cols : List ℕ) → ((m e : ℕ) → picks cols m e ≡ 
     × (Filling (picks cols) k n found w → Filling (may rows) k n found' w' → (found ≡ found') × (w ≡ w'))
     × (Passing (Cuts (picks cols) bs 0 n w) passed → Passing (Cuts (may rows) bs 0 n w) passed' → passed ≡ passed')
     × (Passing (Fills (picks cols) k n w) passed → Passing (Fills (may rows) k n w) passed' → passed ≡ passed')
+
+abbrev pub PairsOrRows : Type 0
+PairsOrRows = (es : List (Elem Leaf)) (xs : List ℤ) (rows : List ℕ) → RowsOf es xs rows → (bs : List Block) (found found' : Bool) (w w' : List ℕ)
+    → Cutting (pairOf es xs) bs (length xs) found w → Cutting (may rows) bs (length xs) found' w' → (found ≡ found') × (w ≡ w')
+
+abbrev pub PairsApart : Type 0
+PairsApart = (may : ℕ → ℕ → Bool) (bs : List Block) (w : List ℕ) (any passed : Bool) → Passing (Cuts anyPair bs 0 (length w) w) any → Passing (Cuts may bs 0 (length w) w) passed
+    → (passed ≡ true → (any ≡ true) × ((e : ℕ) → e < length w → (getD w e 0 ≡ 255) ⊎ (may (getD w e 0) e ≡ true)))
+    × (any ≡ true → ((e : ℕ) → e < length w → (getD w e 0 ≡ 255) ⊎ (may (getD w e 0) e ≡ true)) → passed ≡ true)
 
 -- ---- rows
 pub record ColumnsOf (es : List (Elem Leaf)) (xs : List ℤ) (cols : List ℕ) : Type 0 where

@@ -3,11 +3,11 @@ use mathlib.Core.Path.{_≡_, refl, sym, ap, _∙_, subst}
 use mathlib.Core.Bool.{Bool, true, false, _||_}
 use mathlib.Core.Logic.{⊎-elim}
 use mathlib.Core.List.{List, [], _∷_, _++_, append-nil}
-use Prim.Native.Nat.{ℕ, zero, suc, _+_, _-_, _≤_, _<_}
+use Prim.Native.Nat.{ℕ, _+_, _-_, _≤_, _<_}
 use native.Mathlib.Omega.{arith}
 use borrow.Author.Tests.{ltb-true, ltb-false}
 use lib.Dec.{ltb}
-use lib.IntN.{ℤ, pos}
+use lib.IntN.{ℤ}
 use lib.ListN.{length, getD, take, replicate}
 use Rattle.facts.proofs.Cases.{below, clash, one-of}
 use Rattle.facts.proofs.Spans.{between-past}
@@ -19,11 +19,11 @@ use Rattle.rows.specs.Rows.{may}
 use Rattle.grammar.specs.Element.{Elem}
 use Rattle.grammar.specs.Leaf.{Leaf}
 use Rattle.grammar.specs.Matches.{matches}
-use Rattle.grammar.specs.Members.{memberHits}
 use Rattle.member_rows.specs.Contract.{RowsOf}
 use Rattle.places.specs.Ways.{Agrees}
 use Rattle.places.proofs.Backward.{takes-agree, agrees-turn}
 use Rattle.records.specs.Records.{pairOf, Below}
+use Rattle.records.proofs.RowsAndPairs.{same-pairs}
 
 -- ---- a cut by one block is what the block takes
 
@@ -53,18 +53,9 @@ module _ (may : ℕ → ℕ → Bool) (b : Block) (n : ℕ) where
 
 -- ---- the rows say which member matches which element
 
-no-member : (es : List (Elem Leaf)) (m : ℕ) (x : ℤ) → length es ≤ m → memberHits matches es m x ≡ false
-unfolding memberHits
-no-member [] m x l = refl
-no-member (e ∷ es) zero x l = absurd (omega arith)
-no-member (e ∷ es) (suc m) x l = no-member es m x (omega arith)
-
 module _ (es : List (Elem Leaf)) (xs : List ℤ) (rows : List ℕ) (r : RowsOf es xs rows) where
-  same-pairs : (m e : ℕ) → e < length xs → may rows m e ≡ pairOf es xs m e
-  same-pairs m e l = ⊎-elim (λ (i : m < length es). r .right m e i l) (λ (i : length es ≤ m). r .noMember m e i ∙ sym (no-member es m (getD xs e (pos 0)) i)) (below m (length es))
-
   agrees : (b : Block) → Agrees (may rows) (pairOf es xs) b (length xs)
-  agrees b = record { same = λ m e i l. same-pairs m e l }
+  agrees b = record { same = λ m e i l. same-pairs r m e l }
 
   pub cutting-pairs : (b : Block) {found : Bool} {w : List ℕ} → Cutting (may rows) (b ∷ []) (length xs) found w → Cutting (pairOf es xs) (b ∷ []) (length xs) found w
   cutting-pairs b h = best-same
@@ -74,8 +65,8 @@ module _ (es : List (Elem Leaf)) (xs : List ℤ) (rows : List ℕ) (r : RowsOf e
 
   pub filling-pairs : (k : ℕ) {found : Bool} {w : List ℕ} → Filling (may rows) k (length xs) found w → Filling (pairOf es xs) k (length xs) found w
   filling-pairs k h = best-same
-      (λ v f. record { size = f .size; member = f .member; right = λ e l. sym (same-pairs (getD v e 0) e l) ∙ f .right e l; once = f .once })
-      (λ v f. record { size = f .size; member = f .member; right = λ e l. same-pairs (getD v e 0) e l ∙ f .right e l; once = f .once })
+      (λ v f. record { size = f .size; member = f .member; right = λ e l. sym (same-pairs r (getD v e 0) e l) ∙ f .right e l; once = f .once })
+      (λ v f. record { size = f .size; member = f .member; right = λ e l. same-pairs r (getD v e 0) e l ∙ f .right e l; once = f .once })
       h
 
 -- the test of the length, as the code makes it
