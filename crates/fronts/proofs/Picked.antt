@@ -9,11 +9,11 @@ use native.Mathlib.Omega.{arith}
 use lib.Dec.{leb}
 use lib.ListN.{getD}
 use lib.Seq.{slice, length-slice}
-use borrow.Author.Tests.{le-leb}
-use Rattle.masks.specs.Masks.{bit, Lowest}
-use Rattle.masks.proofs.Masks.{lowest-first}
+use borrow.Author.Tests.{le-leb, leb-true}
+use Rattle.masks.specs.Masks.{bit, Lowest, Highest}
+use Rattle.masks.proofs.Masks.{bit-none, lowest-first, highest-last}
 use Rattle.facts.specs.Counting.{between, count}
-use Rattle.facts.proofs.Cases.{same?, below, not-so, and-right, both}
+use Rattle.facts.proofs.Cases.{same?, below, clash, not-so, and-left, and-right, both}
 use Rattle.facts.proofs.Counting.{cnt-place, count-less}
 use Rattle.facts.proofs.Spans.{between-to}
 use Rattle.facts.proofs.Slices.{slice-at}
@@ -29,7 +29,8 @@ use Rattle.places.specs.Ways.{Low, Leads}
 use Rattle.places.specs.Bytes.{Held}
 use Rattle.places.proofs.Windows.{lone-inside, lone-wider, lone-before, held-assigned, lone-order}
 use Rattle.places.proofs.GroupPlaces.{Furthest, furthest-assigned}
-use Rattle.fronts.specs.Picks.{FirstMember, Picking}
+use Rattle.fronts.specs.Picks.{FirstMember, Picking, Tried}
+use Rattle.fronts.specs.Fronts.{Leading}
 use Rattle.fronts.proofs.Orders.{later-not}
 
 -- ---- the bytes of what a block takes
@@ -91,7 +92,56 @@ lead-order {may} {b} {ends} {p} {t} lead f =
     let g = f .greatest (lead .place) (lead .here) (omega arith) in
     omega arith
 
+-- ---- the ends within b's lengths from p
+pub record Within (b : Block) (ends p near : ℕ) : Type 0 where
+  pub some : (e : ℕ) → bit near e ≡ true → (p + (b .k + b .min) ≤ e) × (e ≤ p + (b .k + b .max)) × (bit ends e ≡ true)
+  pub all : (e : ℕ) → p + (b .k + b .min) ≤ e → e ≤ p + (b .k + b .max) → bit ends e ≡ true → bit near e ≡ true
+
+pub within-is : {b : Block} {ends p near : ℕ} (from : ℕ) → ((e : ℕ) → bit from e ≡ (leb (p + (b .k + b .min)) e && bit ends e)) → ((e : ℕ) → bit near e ≡ (leb e (p + (b .k + b .max)) && bit from e)) → Within b ends p near
+within-is {b} {ends} {p} {near} from on is = record {
+  some = λ e h.
+      let x = sym (is e) ∙ h in
+      let y = sym (on e) ∙ and-right (leb e (p + (b .k + b .max))) (bit from e) x in
+      (leb-true (p + (b .k + b .min)) e (and-left (leb (p + (b .k + b .min)) e) (bit ends e) y), leb-true e (p + (b .k + b .max)) (and-left (leb e (p + (b .k + b .max))) (bit from e) x), and-right (leb (p + (b .k + b .min)) e) (bit ends e) y);
+  all = λ e x y h.
+      is e ∙ both (leb e (p + (b .k + b .max))) (bit from e) (le-leb e (p + (b .k + b .max)) y) (on e ∙ both (leb (p + (b .k + b .min)) e) (bit ends e) (le-leb (p + (b .k + b .min)) e x) h);
+}
+
+-- where b leads on from p there is one
+pub near-lead : {may : ℕ → ℕ → Bool} {b : Block} {ends p near : ℕ} → Within b ends p near → Leads may b ends p → 0 < near
+near-lead {may} {b} {ends} {p} {near} n l =
+    let enough = l .taken .enough in
+    let few = l .taken .few in
+    let o = l .after in
+    bit-pos near (l .place) (n .all (l .place) (omega arith) (omega arith) (l .here))
+
+-- the furthest of them makes a piece of one of b's lengths, and is the furthest of all ends up to the greatest
+pub near-long : {b : Block} {ends p near t : ℕ} → Within b ends p near → Highest 64 near t → p + (b .k + b .min) ≤ t
+near-long {b} {ends} {p} {near} {t} n h = n .some t (h .inside) .0
+
+pub near-furthest : {b : Block} {ends p near t : ℕ} → Within b ends p near → Highest 64 near t → Furthest ends (p + (b .k + b .max)) t
+near-furthest {b} {ends} {p} {near} {t} n h =
+    let s = n .some t (h .inside) in
+    let long = s .0 in
+    record {
+      here = s .2;
+      near = s .1;
+      greatest = λ e x l. ⊎-elim
+          (λ (z : e < p + (b .k + b .min)). omega arith)
+          (λ (z : p + (b .k + b .min) ≤ e). highest-last h e (n .all e z l x))
+          (below e (p + (b .k + b .min)));
+    }
+
 -- ---- one search, from p to t
+-- b leads there where it finds a list
+module _ {may : ℕ → ℕ → Bool} {b : Block} {ends p t : ℕ} {found : Bool} {w : List ℕ} (block : b .first + b .k ≤ 32) (low : Low ends 32) (f : Furthest ends (p + (b .k + b .max)) t)
+    (a : Answer may (b .first) (b .k) p t found w) where
+  pub found-leads : p + (b .k + b .min) ≤ t → found ≡ true → Leads may b ends p
+  found-leads enough y = let near = f .near in record { place = t; here = f .here; after = omega arith; piece = slice p t w; taken = record { assigned = a .best y .holds; enough = omega arith; few = omega arith } }
+
+  pub leads-found : found ≡ false → Leads may b ends p → ⊥
+  leads-found n l = let x = furthest-assigned block low f l in a .none n (x .0) (x .1)
+
 module _ {may : ℕ → ℕ → Bool} {b : Block} {ends p t : ℕ} {found : Bool} {w : List ℕ} (block : b .first + b .k ≤ 32) (low : Low ends 32) (lead : Leads may b ends p)
     (f : Furthest ends (p + (b .k + b .max)) t) (a : Answer may (b .first) (b .k) p t found w) where
   search-found : found ≡ true
@@ -145,7 +195,7 @@ module _ {may : ℕ → ℕ → Bool} {b : Block} {ends p t : ℕ} {found : Bool
 -- ---- the start: from the least place
 module _ {may : ℕ → ℕ → Bool} {b : Block} {ends Q p t : ℕ} {found : Bool} {w : List ℕ} (block : b .first + b .k ≤ 32) (k : 0 < b .k) (low : Low ends 32) (least : Lowest 64 Q p) (lead : Leads may b ends p)
     (f : Furthest ends (p + (b .k + b .max)) t) (a : Answer may (b .first) (b .k) p t found w) where
-  pub pick-start : {head rest : ℕ} (after : ℕ) → FirstMember w p t head → ((e : ℕ) → bit after e ≡ (leb (p + 1) e && bit Q e)) → ((e : ℕ) → bit rest e ≡ (leb e head && bit after e)) → Picking may b ends Q w t rest
+  pick-start : {head rest : ℕ} (after : ℕ) → FirstMember w p t head → ((e : ℕ) → bit after e ≡ (leb (p + 1) e && bit Q e)) → ((e : ℕ) → bit rest e ≡ (leb e head && bit after e)) → Picking may b ends Q w t rest
   pick-start {head} {rest} after m is cut = record {
     chosen = record { from = p; to = t; here = least .inside; end = f .here; held = search-held block low lead f a };
     window = omega arith;
@@ -168,6 +218,44 @@ module _ {may : ℕ → ℕ → Bool} {b : Block} {ends Q p t : ℕ} {found : Bo
         (λ (z : e ≤ t). inl (search-covers block low lead f a pq z h))
         (below t e);
   }
+
+  pub tried-start : {head rest : ℕ} (after : ℕ) → FirstMember w p t head → ((e : ℕ) → bit after e ≡ (leb (p + 1) e && bit Q e)) → ((e : ℕ) → bit rest e ≡ (leb e head && bit after e)) → Tried may b ends Q w t rest
+  tried-start {head} {rest} after m is cut = record {
+    some = λ _. pick-start after m is cut;
+    later = λ q h. let z = leb-true (p + 1) q (and-left (leb (p + 1) q) (bit Q q) (sym (is q) ∙ and-right (leb q head) (bit after q) (sym (cut q) ∙ h))) in (p, least .inside, omega arith);
+    none = λ z. let long = lead-order lead f in absurd (omega arith);
+  }
+
+-- there is none
+pub tried-none : {may : ℕ → ℕ → Bool} {b : Block} {ends Q p : ℕ} {g : List ℕ} → bit Q p ≡ true → (Leads may b ends p → ⊥) → Tried may b ends Q g 0 0
+tried-none {may} {b} {ends} {Q} {p} here never = record { some = λ z. absurd (omega arith); later = λ q h. absurd (clash h (bit-none q)); none = λ _. (p, here, never) }
+
+-- where b leads on from each place, the search finds a list
+pub tried-leading : {may : ℕ → ℕ → Bool} {b : Block} {ends Q to rest : ℕ} {g : List ℕ} → Leading may b ends Q → Tried may b ends Q g to rest → Picking may b ends Q g to rest
+tried-leading {may} {b} {ends} {Q} {to} l t = ⊎-elim
+    (λ (z : 0 < to). t .some z)
+    (λ (z : to ≤ 0). let n = t .none (omega arith) in absurd (n .2 (l .each (n .0) (n .1))))
+    (below 0 to)
+
+-- and where there is one place only, no place is left
+pub tried-one : {may : ℕ → ℕ → Bool} {b : Block} {ends Q to rest : ℕ} {g : List ℕ} → ((q : ℕ) → bit Q q ≡ true → q ≡ 0) → Tried may b ends Q g to rest → 0 < to → Picking may b ends Q g to 0
+tried-one {may} {b} {ends} {Q} {to} {rest} {g} only t some =
+    let p = t .some some in
+    record {
+      chosen = p .chosen;
+      window = p .window;
+      high = p .high;
+      inside = λ q h. absurd (clash h (bit-none q));
+      least = λ q e x here end h. ⊎-elim
+          (λ (z : earlier x g ≡ false). inl z)
+          (λ (z : (bit rest q ≡ true) × (to < e)). let y = t .later q (z .0) in let u = y .2 in let o = only q here in absurd (omega arith))
+          (p .least q e x here end h);
+    }
+
+pub picked-leads : {may : ℕ → ℕ → Bool} {b : Block} {ends Q to rest : ℕ} {g : List ℕ} → ((q : ℕ) → bit Q q ≡ true → q ≡ 0) → Picking may b ends Q g to rest → Leads may b ends 0
+picked-leads {may} {b} {ends} {Q} {to} {rest} {g} only p =
+    let c = p .chosen in
+    subst (λ (q : ℕ). Leads may b ends q) (only (c .from) (c .here)) (record { place = c .to; here = c .end; after = c .held .order; piece = slice (c .from) (c .to) g; taken = c .held .taken })
 
 -- ---- one place more
 module _ {may : ℕ → ℕ → Bool} {b : Block} {ends Q to rest p t : ℕ} {g : List ℕ} (s : Picking may b ends Q g to rest) (least : Lowest 64 rest p) (f : Furthest ends (p + (b .k + b .max)) t) where

@@ -16,7 +16,8 @@ use Rattle.blocks.specs.declared.Block.{Block}
 use Rattle.blocks.specs.Pieces.{Cuts, Best}
 use Rattle.blocks.proofs.Cutting.{cuts-order}
 use Rattle.places.specs.Ways.{Way, Ways}
-use Rattle.fronts.specs.Fronts.{Onward, Later, Pieced, Reached, Step, Leading, Standing, Moved}
+use Rattle.places.proofs.Backward.{way-leads}
+use Rattle.fronts.specs.Fronts.{Onward, Later, Pieced, Reached, Step, Leading, Standing, Moved, Underway}
 use Rattle.fronts.proofs.Orders.{later-not}
 
 -- a list that comes later than g comes later than g and anything behind it
@@ -77,18 +78,15 @@ module _ {may : ℕ → ℕ → Bool} {b : Block} {bs : List Block} {n ends Q l 
   pub step-first : {y : List ℕ} → First (Onward may bs n next l') y → First (Onward may (b ∷ bs) n Q l) (g ++ y)
   step-first {y} f = record { holds = onward-whole y (f .holds); least = onward-later f }
 
--- ---- how far the cut by all blocks is settled, with the blocks `rest` to come
-pub record Underway (may : ℕ → ℕ → Bool) (all rest : List Block) (n Q l : ℕ) (w : List ℕ) : Type 0 where
-  pub standing : Standing Q l w
-  pub one : ℕ
-  pub here : bit Q one ≡ true
-  pub each : (q : ℕ) → bit Q q ≡ true → Way may rest q n
-  pub first : (y : List ℕ) → First (Onward may rest n Q l) y → First (Cuts may all 0 n) (take l w ++ y)
+-- ---- how far the cut by all blocks is settled
+-- one place only
+pub only-start : (Q : ℕ) → Plus (bit 0) 0 (bit Q) → (q : ℕ) → bit Q q ≡ true → q ≡ 0
+only-start Q one q h = ⊎-elim (λ (z : q ≡ 0). z) (λ (z : q ≡ 0 → ⊥). absurd (clash h (one .other q z ∙ bit-none q))) (same? q 0)
 
 pub underway-start : {may : ℕ → ℕ → Bool} {all : List Block} {n Q : ℕ} (w : List ℕ) → length w ≡ 32 → ((i : ℕ) → i < 32 → getD w i 0 ≡ 255) → Plus (bit 0) 0 (bit Q) → Way may all 0 n
     → Underway may all all n Q 0 w
 underway-start {may} {all} {n} {Q} w size blank one way =
-    let only : (q : ℕ) → bit Q q ≡ true → q ≡ 0 = λ q h. ⊎-elim (λ (z : q ≡ 0). z) (λ (z : q ≡ 0 → ⊥). absurd (clash h (one .other q z ∙ bit-none q))) (same? q 0) in
+    let only = only-start Q one in
     record {
       standing = record { size = size; blank = λ i _ l. blank i l; after = λ q h. omega arith };
       one = 0;
@@ -105,15 +103,7 @@ underway-start {may} {all} {n} {Q} w size blank one way =
     }
 
 pub underway-leading : {may : ℕ → ℕ → Bool} {all : List Block} {b : Block} {bs : List Block} {n ends Q l : ℕ} {w : List ℕ} → Ways may bs n ends → Underway may all (b ∷ bs) n Q l w → Leading may b ends Q
-unfolding Cuts
-underway-leading {may} {all} {b} {bs} {n} {ends} {Q} ways u = record {
-  one = u .one;
-  here = u .here;
-  each = λ q h.
-      let c = u .each q h .cut in
-      let j = c .parts in
-      record { place = c .mid; here = ways .all (c .mid) (record { list = j .right; cut = j .onRight }); after = c .after; piece = j .left; taken = j .onLeft };
-}
+underway-leading ways u = record { one = u .one; here = u .here; each = λ q h. way-leads ways (u .each q h) }
 
 pub underway-step : {may : ℕ → ℕ → Bool} {all : List Block} {b : Block} {bs : List Block} {n ends Q l : ℕ} {w : List ℕ} {next l' : ℕ} {w' : List ℕ}
     → Ways may bs n ends → Underway may all (b ∷ bs) n Q l w → Moved may b ends Q l w next l' w' → Underway may all bs n next l' w'

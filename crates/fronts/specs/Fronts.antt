@@ -9,6 +9,8 @@
 -- Leading may b ends Q  <-> b leads from each of the places Q to one of the ends, and there is one
 -- Standing Q l w        <-> the bytes of w from l on are 255, and no place of Q is before l
 -- Moved may b ends Q l w next l' w' <-> b is settled up to l' as `Step` says: w' is w up to l, then what b adds up to l', then 255
+-- Underway may all rest n Q l w <-> the bytes of w before l begin the first cut by the blocks `all`: the blocks `rest` are to come, can go on from each of the places Q, of which there is one,
+--   and the first of what they add (`Onward`) makes it whole
 -- Assumes nothing: these are definitions.
 use mathlib.Core.Path.{_≡_}
 use mathlib.Core.Logic.{_⊎_}
@@ -19,7 +21,8 @@ use lib.ListN.{length, getD, take, replicate}
 use Rattle.masks.specs.Masks.{bit}
 use Rattle.blocks.specs.declared.Block.{Block}
 use Rattle.blocks.specs.Pieces.{Takes, Cuts}
-use Rattle.places.specs.Ways.{Leads}
+use Rattle.byte_order.specs.ByteOrder.{First}
+use Rattle.places.specs.Ways.{Leads, Way}
 
 pub record Onward (may : ℕ → ℕ → Bool) (bs : List Block) (n Q l : ℕ) (y : List ℕ) : Type 0 where
   pub place : ℕ
@@ -73,3 +76,10 @@ pub record Moved (may : ℕ → ℕ → Bool) (b : Block) (ends Q l : ℕ) (w : 
   pub step : Step may b ends Q l added next l'
   pub standing : Standing next l' w'
   pub whole : take l' w' ≡ take l w ++ added
+
+pub record Underway (may : ℕ → ℕ → Bool) (all rest : List Block) (n Q l : ℕ) (w : List ℕ) : Type 0 where
+  pub standing : Standing Q l w
+  pub one : ℕ
+  pub here : bit Q one ≡ true
+  pub each : (q : ℕ) → bit Q q ≡ true → Way may rest q n
+  pub first : (y : List ℕ) → First (Onward may rest n Q l) y → First (Cuts may all 0 n) (take l w ++ y)

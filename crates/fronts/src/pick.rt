@@ -8,7 +8,7 @@ ghost use Rattle.byte_order.specs.ByteOrder.{earlier};
 ghost use Rattle.rows.specs.Rows.{may};
 ghost use Rattle.places.specs.Ways.{Low};
 ghost use Rattle.fronts.specs.Fronts.{Leading};
-ghost use Rattle.fronts.specs.Picks.{FirstMember, Picking};
+ghost use Rattle.fronts.specs.Picks.{FirstMember, Picking, Tried};
 use assign::first_assignment;
 use blocks::Block;
 use format::SPARE;
@@ -18,9 +18,9 @@ use place_masks::lowest_place;
 use place_masks::up_to;
 
 // The end up to which the first list so far was found, and the places that are left.
-struct Pick {
-    to: usize,
-    rest: u64,
+pub struct Pick {
+    pub to: usize,
+    pub rest: u64,
 }
 
 // Whether a comes before b in byte order.
@@ -57,15 +57,23 @@ pub fn first_member(w: &[u8; 32], from: usize, to: usize) -> usize
 }
 
 // The first list from the least of the places, to the furthest end: it is no later than any to a nearer end. Lists that begin after its first
-// member come later.
-fn start(rows: &[u32; 32], b: Block, places: u64, ends: u64, best: &mut [u8; 32]) -> Pick
-    requires { ⌜ (b .first + b .k ≤ 32) × (0 < b .k) × Low ends 32 × Leading (may (now rows)) b ends places ⌝ }
-    ensures { λ r. ⌜ Picking (may (now (rows .entry))) b ends places (now (best .exit)) (r .to) (r .rest) ⌝ }
+// member come later. The end 0 says that there is none from there.
+pub fn start(rows: &[u32; 32], b: Block, places: u64, ends: u64, best: &mut [u8; 32]) -> Pick
+    requires { ⌜ (b .first + b .k ≤ 32) × (0 < b .k) × Low ends 32 × (0 < places) ⌝ }
+    ensures { λ r. ⌜ Tried (may (now (rows .entry))) b ends places (now (best .exit)) (r .to) (r .rest) ⌝ }
 {
     let p = lowest_place(places);
+    let least = b.k as usize + b.min as usize;
     let most = b.k as usize + b.max as usize;
-    let t = highest_place(up_to(ends, p + most));
+    let near = up_to(from_on(ends, p + least), p + most);
+    if near == 0 {
+        return Pick { to: 0, rest: 0 };
+    }
+    let t = highest_place(near);
     let f = first_assignment(rows, b.first, b.k, p as u8, t as u8);
+    if !f.found {
+        return Pick { to: 0, rest: 0 };
+    }
     let w = f.w;
     *best = w;
     let head = first_member(best, p, t);

@@ -17,7 +17,7 @@ use Rattle.blocks.proofs.Assignments.{assigns-rows}
 use Rattle.blocks.proofs.Cutting.{cuts-order}
 use Rattle.blocks.proofs.OneMember.{one-taken, taken-one}
 use Rattle.blocks.proofs.SpareBlocks.{spares-taken}
-use Rattle.places.specs.Ways.{Ways, Low, Leads, Back, Agrees}
+use Rattle.places.specs.Ways.{Way, Ways, Low, Leads, Back, Agrees}
 
 -- ---- the places are those of the list
 pub ways-low : {may : ℕ → ℕ → Bool} {bs : List Block} {n good : ℕ} → Ways may bs n good → Low good n
@@ -39,11 +39,10 @@ ways-end may n {good} one = record {
 }
 
 -- ---- one block more in front
-pub ways-back : {may : ℕ → ℕ → Bool} {b : Block} {bs : List Block} {n good r : ℕ} → Back may b good r → Ways may bs n good → Ways may (b ∷ bs) n r
-unfolding Cuts
-ways-back {may} {b} {bs} {n} {good} {r} f g = record {
-  some = λ p h.
-      let l = f .some p h in
+module _ {may : ℕ → ℕ → Bool} {b : Block} {bs : List Block} {n good p : ℕ} (g : Ways may bs n good) where
+  pub leads-way : Leads may b good p → Way may (b ∷ bs) p n
+  unfolding Cuts
+  leads-way l =
       let w = g .some (l .place) (l .here) in
       record {
         list = l .piece ++ w .list;
@@ -53,12 +52,17 @@ ways-back {may} {b} {bs} {n} {good} {r} f g = record {
           inside = ways-low g (l .place) (l .here);
           parts = record { left = l .piece; right = w .list; whole = refl; onLeft = l .taken; onRight = w .cut };
         };
-      };
-  all = λ p w.
+      }
+
+  pub way-leads : Way may (b ∷ bs) p n → Leads may b good p
+  unfolding Cuts
+  way-leads w =
       let c = w .cut in
       let j = c .parts in
-      f .all p (record { place = c .mid; here = g .all (c .mid) (record { list = j .right; cut = j .onRight }); after = c .after; piece = j .left; taken = j .onLeft });
-}
+      record { place = c .mid; here = g .all (c .mid) (record { list = j .right; cut = j .onRight }); after = c .after; piece = j .left; taken = j .onLeft }
+
+pub ways-back : {may : ℕ → ℕ → Bool} {b : Block} {bs : List Block} {n good r : ℕ} → Back may b good r → Ways may bs n good → Ways may (b ∷ bs) n r
+ways-back f g = record { some = λ p h. leads-way g (f .some p h); all = λ p w. f .all p (way-leads g w) }
 
 -- ---- two relations that agree on the block's members
 pub agrees-turn : {may may' : ℕ → ℕ → Bool} {b : Block} {n : ℕ} → Agrees may may' b n → Agrees may' may b n

@@ -5,13 +5,13 @@ use mathlib.Core.Logic.{⊎-elim}
 use mathlib.Core.List.{List, [], _∷_}
 use Prim.Native.Nat.{ℕ, zero, suc, _+_, _≤_, _<_}
 use native.Mathlib.Omega.{arith}
-use borrow.Author.Tests.{lt-ltb}
+use borrow.Author.Tests.{lt-ltb, eq-eqb, ne-eqb}
 use lib.Dec.{ltb}
 use lib.IntN.{ℤ, pos}
 use lib.ListN.{length, getD, take}
 use lib.Seq.{take-take, length-take-le}
 use Rattle.facts.specs.Counting.{between}
-use Rattle.facts.proofs.Cases.{holds?, clash, and-left, and-right, both, one-of, or-left, or-right, not-so}
+use Rattle.facts.proofs.Cases.{by-test, holds?, clash, and-left, and-right, both, one-of, or-left, or-right, same-test}
 use Rattle.facts.proofs.Spans.{between-from, between-to}
 use Rattle.masks.specs.Masks.{bit}
 use Rattle.rows.specs.Rows.{may}
@@ -25,10 +25,12 @@ use Rattle.grammar.specs.Members.{memberHits}
 use Rattle.element_match.specs.Contract.{Among, HitsAt}
 use Rattle.member_rows.specs.Places.{MembersAt, MembersMarked}
 use Rattle.member_rows.proofs.RowByRow.{member-at}
-use Rattle.places.specs.Ways.{Back, Low}
+use Rattle.places.specs.Ways.{Back, Low, Agrees}
 use Rattle.blocks.specs.Pieces.{isOne}
+use Rattle.blocks.proofs.OneMember.{one-parts}
+use Rattle.fronts.specs.Given.{isGroup}
 use Rattle.places.proofs.Backward.{Tested, back-one, back-spares, back-agree}
-use Rattle.records.specs.Records.{pairOf, Sound, Before}
+use Rattle.records.specs.Records.{pairOf, Sound, Joined, Before, leftOut}
 
 -- ---- the rows stay as they are
 
@@ -36,20 +38,19 @@ module _ (es : List (Elem Leaf)) (xs : List ℤ) (b : Block) (good : ℕ) (rows 
   -- a block with no members
   pub before-spares : {r : ℕ} → b .k ≡ 0 → SparesBefore good (b .min) (b .max) r → Before es xs b good rows rows r
   before-spares none h = record {
-    size = size;
-    kept = λ m e l q. q;
-    sound = λ s. s;
-    group = λ o m e i. let f = between-from (b .first) (b .first + b .k) m i in let t = between-to (b .first) (b .first + b .k) m i in absurd (omega arith);
+    rows = record {
+      size = size;
+      kept = λ m e l q. q;
+      sound = λ s. s;
+      group = λ o m e i. let f = between-from (b .first) (b .first + b .k) m i in let t = between-to (b .first) (b .first + b .k) m i in absurd (omega arith);
+    };
     back = λ s. back-spares (pairOf es xs) b none h;
   }
 
   -- one member, tested where it is asked about
   pub before-member : {r : ℕ} → isOne b ≡ true → b .first < 32 → Tested (pairOf es xs) b good r → Before es xs b good rows rows r
   before-member one low h = record {
-    size = size;
-    kept = λ m e l q. q;
-    sound = λ s. s;
-    group = λ o. absurd (clash one o);
+    rows = record { size = size; kept = λ m e l q. q; sound = λ s. s; group = λ o. absurd (clash one o) };
     back = λ s. back-one one low h;
   }
 
@@ -71,6 +72,13 @@ member-tested t places members w es s xs b good asked r short low high says h =
           let l = high (p + 1) g in
           told .told p ∙ both (bit asked p) _ (says p ∙ both (ltb p 32) _ (lt-ltb p 32 (omega arith)) g) (sym (who .hits (getD xs p (pos 0))) ∙ q);
     }
+
+-- rows that are sound and have all members of a block say of them what is so
+pub joined-agree : (es : List (Elem Leaf)) (xs : List ℤ) (b : Block) {rows : List ℕ} → Sound es xs rows
+    → ((m e : ℕ) → between (b .first) (b .first + b .k) m ≡ true → e < length xs → pairOf es xs m e ≡ true → may rows m e ≡ true) → Agrees (may rows) (pairOf es xs) b (length xs)
+joined-agree es xs b {rows} sound full = record {
+  same = λ m e i l. same-test (may rows m e) (pairOf es xs m e) (sound .right m e l) (full m e i l);
+}
 
 -- ---- fewer members
 
@@ -99,37 +107,52 @@ module _ (t places : List ℕ) (members k : ℕ) (fewer : k ≤ members) where
       let n : length (w .who) ≡ members = sym (w .size) in
       record { few = omega arith; short = w .short; who = take k (w .who); size = sym (length-take-le k (w .who) (omega arith)); stands = standing-fewer (w .who) (w .stands) }
 
-  -- a group: its members are marked, and it is searched for by the rows
-  pub before-group : (es : List (Elem Leaf)) → Standing t es (take members places) → (xs : List ℤ) (b : Block) (good r : ℕ) (before after : List ℕ) → b .first + b .k ≡ k → Low good (length xs)
-      → MembersMarked before t places (b .first) k xs after → Back (may after) b good r → Before es xs b good before after r
-  before-group es s xs b good r before after end low g back =
+  -- a group: its members are marked
+  pub group-joined : (es : List (Elem Leaf)) → Standing t es (take members places) → (xs : List ℤ) (b : Block) (before after : List ℕ) → b .first + b .k ≡ k → MembersMarked before t places (b .first) k xs after
+      → Joined es xs b before after
+  group-joined es s xs b before after end g =
       let told : (m e : ℕ) → b .first ≤ m → m < k → e < length xs → may after m e ≡ (may before m e || pairOf es xs m e) =
       λ m e f l i. g .self (take k es) (standing-fewer es s) m e f l i ∙ ap (λ (v : Bool). may before m e || v) (fewer-hits k es m (getD xs e (pos 0)) l) in
-      let full : (m e : ℕ) → between (b .first) k m ≡ true → e < length xs → pairOf es xs m e ≡ true → may after m e ≡ true =
-      λ m e i l q. told m e (between-from (b .first) k m i) (between-to (b .first) k m i) l ∙ or-right (may before m e) (pairOf es xs m e) q in
-      let sound : Sound es xs before → Sound es xs after = λ z. record {
-        right = λ m e l q. ⊎-elim
-            (λ (i : between (b .first) k m ≡ true). ⊎-elim
-            (λ (o : may before m e ≡ true). z .right m e l o)
-            (λ (o : pairOf es xs m e ≡ true). o)
-            (one-of (may before m e) (pairOf es xs m e) (sym (told m e (between-from (b .first) k m i) (between-to (b .first) k m i) l) ∙ q)))
-            (λ (i : between (b .first) k m ≡ false). z .right m e l (sym (g .other m e i) ∙ q))
-            (holds? (between (b .first) k m));
-      } in
       record {
         size = g .size;
         kept = λ m e l q. ⊎-elim
             (λ (i : between (b .first) k m ≡ true). told m e (between-from (b .first) k m i) (between-to (b .first) k m i) l ∙ or-left (may before m e) (pairOf es xs m e) q)
             (λ (i : between (b .first) k m ≡ false). g .other m e i ∙ q)
             (holds? (between (b .first) k m));
-        sound = sound;
-        group = λ o m e i l q. full m e (rw (sym end) i) l q;
-        back = λ z. back-agree (record { same = λ m e i l. agree m e (rw (sym end) i) l (sound z) full }) low back;
+        sound = λ z. record {
+          right = λ m e l q. ⊎-elim
+              (λ (i : between (b .first) k m ≡ true). ⊎-elim
+              (λ (o : may before m e ≡ true). z .right m e l o)
+              (λ (o : pairOf es xs m e ≡ true). o)
+              (one-of (may before m e) (pairOf es xs m e) (sym (told m e (between-from (b .first) k m i) (between-to (b .first) k m i) l) ∙ q)))
+              (λ (i : between (b .first) k m ≡ false). z .right m e l (sym (g .other m e i) ∙ q))
+              (holds? (between (b .first) k m));
+        };
+        group = λ o m e i l q. let j : between (b .first) k m ≡ true = rw (sym end) i in told m e (between-from (b .first) k m j) (between-to (b .first) k m j) l ∙ or-right (may before m e) (pairOf es xs m e) q;
       }
-    where
-      agree : (m e : ℕ) → between (b .first) k m ≡ true → e < length xs → Sound es xs after → ((m e : ℕ) → between (b .first) k m ≡ true → e < length xs → pairOf es xs m e ≡ true → may after m e ≡ true)
-          → may after m e ≡ pairOf es xs m e
-      agree m e i l z full = ⊎-elim
-          (λ (q : pairOf es xs m e ≡ true). full m e i l q ∙ sym q)
-          (λ (q : pairOf es xs m e ≡ false). not-so (may after m e) (λ h. clash (z .right m e l h) q) ∙ sym q)
-          (holds? (pairOf es xs m e))
+
+-- and it is searched for by the rows
+pub before-group : (es : List (Elem Leaf)) (xs : List ℤ) (b : Block) (good r : ℕ) (before after : List ℕ) → isOne b ≡ false → Low good (length xs) → Joined es xs b before after → Back (may after) b good r
+    → Before es xs b good before after r
+before-group es xs b good r before after more low g back = record { rows = g; back = λ z. back-agree (joined-agree es xs b (g .sound z) (g .group more)) low back }
+
+-- ---- the first block
+pub left-spares : (b : Block) → b .k ≡ 0 → 0 ≡ leftOut b
+unfolding leftOut isGroup
+left-spares b h = rw (eq-eqb (b .k) 0 h) refl
+
+pub left-member : (b : Block) → isOne b ≡ true → 0 ≡ leftOut b
+unfolding leftOut isGroup
+left-member b h = rw (h, ne-eqb (b .k) 0 (λ z. let k = one-parts b h .0 in omega arith)) refl
+
+pub left-group : (b : Block) → (b .k ≡ 0 → ⊥) → isOne b ≡ false → 1 ≡ leftOut b
+unfolding leftOut isGroup
+left-group b n h = rw (ne-eqb (b .k) 0 n, h) refl
+
+pub left-most : (b : Block) → leftOut b ≤ 1
+unfolding leftOut
+left-most b = by-test (isGroup b) (λ h. rw h (omega arith)) (λ h. rw h (omega arith))
+
+pub left-first : (b : Block) → 0 < leftOut b → isGroup b ≡ true
+unfolding leftOut
+left-first b l = by-test (isGroup b) (λ h. h) (λ h. let z : 0 < 0 = rw h at l in absurd (omega arith))

@@ -9,7 +9,7 @@ use lib.IntN.{ℤ}
 use lib.ListN.{length, getD, take, drop, set, replicate}
 use lib.Seq.{getD-set-same, getD-set-other}
 use Rattle.facts.specs.Counting.{between}
-use Rattle.facts.proofs.Cases.{same?, holds?, clash, not-so}
+use Rattle.facts.proofs.Cases.{same?, clash}
 use Rattle.masks.specs.Masks.{bit, Plus}
 use Rattle.rows.specs.Rows.{may}
 use Rattle.rows.proofs.Rows.{zeros-may}
@@ -23,8 +23,9 @@ use Rattle.places.specs.Ways.{Ways}
 use Rattle.places.proofs.LentPlaces.{lent-end, lent-back, lent-never}
 use Rattle.blocks.proofs.FirstLists.{none-best}
 use Rattle.plain.specs.Plain.{Plain}
-use Rattle.fronts.specs.Given.{Told, Prepares}
-use Rattle.records.specs.Records.{pairOf, Below, Sound, Before}
+use Rattle.fronts.specs.Given.{Known, Prepares}
+use Rattle.records.specs.Records.{pairOf, Below, Sound, Joined, Before}
+use Rattle.records.proofs.Blocks.{joined-agree}
 
 -- ---- the members of each block
 
@@ -54,54 +55,50 @@ plain-few k (suc c) vs plain h =
 -- ---- from block to block
 
 module _ (es : List (Elem Leaf)) (xs : List ℤ) (count : ℕ) (vs : List ℕ) where
-  pub record Going (j good : ℕ) (ends rows : List ℕ) : Type 0 where
-    pub ways : Ways (pairOf es xs) (drop j (lent count vs)) (length xs) good
+  -- the rows of the groups from j on, and the places from which the blocks after each go on
+  pub record Gone (j : ℕ) (ends rows : List ℕ) : Type 0 where
     pub after : (i : ℕ) → j ≤ i → i < count → Ways (pairOf es xs) (drop (suc i) (lent count vs)) (length xs) (getD ends i 0)
     pub sound : Sound es xs rows
     pub done : (i : ℕ) → j ≤ i → i < count → isOne (blockIn (getD vs i 0)) ≡ false
         → (m e : ℕ) → between (blockIn (getD vs i 0) .first) (blockIn (getD vs i 0) .first + blockIn (getD vs i 0) .k) m ≡ true → e < length xs → pairOf es xs m e ≡ true → may rows m e ≡ true
     pub size : length rows ≡ 32
 
+  pub record Going (j good : ℕ) (ends rows : List ℕ) : Type 0 where
+    pub ways : Ways (pairOf es xs) (drop j (lent count vs)) (length xs) good
+    pub gone : Gone j ends rows
+
   pub going-start : {good : ℕ} (ends : List ℕ) → Plus (bit 0) (length xs) (bit good) → Going count good ends (replicate 32 0)
   going-start ends p = record {
     ways = lent-end (pairOf es xs) count vs (length xs) p;
-    after = λ i l u. absurd (omega arith);
-    sound = record { right = λ m e l h. absurd (clash h (zeros-may m e)) };
-    done = λ i l u. absurd (omega arith);
-    size = refl;
+    gone = record { after = λ i l u. absurd (omega arith); sound = record { right = λ m e l h. absurd (clash h (zeros-may m e)) }; done = λ i l u. absurd (omega arith); size = refl };
   }
 
   module _ (j i good : ℕ) (ends rows : List ℕ) (g : Going j good ends rows) (b : Block) (is : b ≡ blockIn (getD vs i 0)) (q : j ≡ suc i) (l : j ≤ count) (wide : length ends ≡ 32) (few : count ≤ 32) where
-    pub going-step : (r : ℕ) (rows′ : List ℕ) → Before es xs b good rows rows′ r → Going i r (set ends i good) rows′
-    going-step r rows′ h = record {
-      ways = lent-back count vs j i is q l (h .back (g .sound)) (g .ways);
+    pub gone-step : (rows′ : List ℕ) → Joined es xs b rows rows′ → Gone i (set ends i good) rows′
+    gone-step rows′ h = record {
       after = λ k a u. ⊎-elim
           (λ (z : k ≡ i). rw (z, getD-set-same ends i good 0 (omega arith), sym q) (g .ways))
-          (λ (z : k ≡ i → ⊥). rw (getD-set-other ends i k good 0 z) (g .after k (omega arith) u))
+          (λ (z : k ≡ i → ⊥). rw (getD-set-other ends i k good 0 z) (g .gone .after k (omega arith) u))
           (same? k i);
-      sound = h .sound (g .sound);
+      sound = h .sound (g .gone .sound);
       done = λ k a u o m e c e′ p. ⊎-elim
           (λ (z : k ≡ i).
           let z′ : blockIn (getD vs k 0) ≡ b = ap (λ (x : ℕ). blockIn (getD vs x 0)) z ∙ sym is in
           h .group (ap isOne (sym z′) ∙ o) m e (subst (λ (d : Block). between (d .first) (d .first + d .k) m ≡ true) z′ c) e′ p)
-          (λ (z : k ≡ i → ⊥). h .kept m e e′ (g .done k (omega arith) u o m e c e′ p))
+          (λ (z : k ≡ i → ⊥). h .kept m e e′ (g .gone .done k (omega arith) u o m e c e′ p))
           (same? k i);
       size = h .size;
     }
 
-  module _ (good : ℕ) (ends rows : List ℕ) (g : Going 0 good ends rows) where
-    told : Told (pairOf es xs) rows count vs (length xs)
-    told = record {
-      at = λ j l o. record {
-        same = λ m e i u. ⊎-elim
-            (λ (h : pairOf es xs m e ≡ true). g .done j (omega arith) l o m e i u h ∙ sym h)
-            (λ (h : pairOf es xs m e ≡ false). not-so (may rows m e) (λ z. clash (g .sound .right m e u z) h) ∙ sym h)
-            (holds? (pairOf es xs m e));
-      };
-    }
+    pub going-step : (r : ℕ) (rows′ : List ℕ) → Before es xs b good rows rows′ r → Going i r (set ends i good) rows′
+    going-step r rows′ h = record { ways = lent-back count vs j i is q l (h .back (g .gone .sound)) (g .ways); gone = gone-step rows′ (h .rows) }
 
+  pub gone-known : (ends rows : List ℕ) → Gone 0 ends rows → Known (pairOf es xs) rows count vs ends (length xs)
+  gone-known ends rows g = record { told = record { at = λ j l o. joined-agree es xs (blockIn (getD vs j 0)) (g .sound) (g .done j (omega arith) l o) }; ways = λ j l. g .after j (omega arith) l }
+
+  module _ (good : ℕ) (ends rows : List ℕ) (g : Going 0 good ends rows) where
     pub prepares : bit good 0 ≡ true → Prepares (pairOf es xs) rows count vs ends (length xs)
-    prepares h = record { told = told; ways = λ j l. g .after j (omega arith) l; start = g .ways .some 0 h }
+    prepares h = record { known = gone-known ends rows (g .gone); start = g .ways .some 0 h }
 
     pub no-cut : bit good 0 ≡ false → (w : List ℕ) → w ≡ replicate 32 255 → Cutting (pairOf es xs) (blocksIn (take count vs)) (length xs) false w
     no-cut h w blank = none-best blank (lent-never count vs (g .ways) h)

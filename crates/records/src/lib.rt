@@ -13,7 +13,7 @@ ghost use Rattle.blocks.specs.Pieces.{Cutting};
 ghost use Rattle.member_rows.specs.Places.{MembersAt, Widened};
 ghost use Rattle.plain.specs.Plain.{Plain};
 ghost use Rattle.places.specs.Ways.{Low};
-ghost use Rattle.records.specs.Records.{pairOf, Below, Before};
+ghost use Rattle.records.specs.Records.{pairOf, Below, Joined, Before, leftOut};
 use blocks::Block;
 use blocks::Found;
 use blocks::block_at;
@@ -23,6 +23,7 @@ use element_match::hits;
 use element_match::leaf_hit;
 use format::LIST;
 use format::SPARE;
+use fronts::first_cut_by_group;
 use fronts::first_cut_from;
 use masks::has_place;
 use masks::with_place;
@@ -35,6 +36,23 @@ use plain::is_plain;
 use runs::join_runs;
 
 mod runs; // runs of 20s as one 20
+
+// Puts the members of a group into the rows.
+fn mark_group(
+    t: &[u8],
+    places: &[u16; 32],
+    members: usize,
+    list: &[i32],
+    wide: &[i32; 32],
+    rows: &mut [u32; 32],
+    b: Block,
+)
+    requires { ⌜ MembersAt (now t) (now places) members × (length (now list) ≤ 32) × Widened (now list) (now wide) × (length (now rows) ≡ 32) × (b .first + b .k ≤ members) ⌝ }
+    ensures { λ _. ⌜ ((es : List (Elem Leaf)) → Standing (now (t .entry)) es (take members (now (places .entry))) → Joined es (now (list .entry)) b (now (rows .entry)) (now (rows .exit))) ⌝ }
+{
+    let first = b.first as usize;
+    mark_members(rows, t, places, first, first + b.k as usize, list, wide);
+}
 
 // The places from which b leads to a good one. The rows get the members of a group.
 fn before_block(
@@ -53,13 +71,26 @@ fn before_block(
     if b.k == 0 {
         return before_spares(good, b.min as usize, b.max as usize);
     }
-    let first = b.first as usize;
     if is_one(b) {
+        let first = b.first as usize;
         let at = places[first] as usize;
         return hits(t, at, list, before_one(good)) as u64;
     }
-    mark_members(rows, t, places, first, first + b.k as usize, list, wide);
+    mark_group(t, places, members, list, wide, rows, b);
     before_group(rows, b, good)
+}
+
+// How many blocks the way back leaves out: the first, where it is a group, since it begins at one place only and is searched for on the way forward.
+fn left_out(b: Block) -> usize
+    ensures { λ r. ⌜ r ≡ leftOut b ⌝ }
+{
+    if b.k == 0 {
+        return 0;
+    }
+    if is_one(b) {
+        return 0;
+    }
+    1
 }
 
 // The first cut by plain blocks: each element is tested on its own member, and there is no other cut.
@@ -113,12 +144,19 @@ fn first_by_places(
     let mut rows: [u32; 32] = [0; 32];
     let mut ends: [u64; 32] = [0; 32];
     let mut good = with_place(0, n);
+    let last = left_out(block_at(blocks, 0));
     let mut j = count;
-    while 0 < j {
+    while last < j {
         j -= 1;
         ends[j] = good;
         let b = block_at(blocks, j);
         good = before_block(t, places, members, list, &wide, &mut rows, b, good);
+    }
+    if j != 0 {
+        ends[0] = good;
+        let b = block_at(blocks, 0);
+        mark_group(t, places, members, list, &wide, &mut rows, b);
+        return first_cut_by_group(&rows, blocks, count, &ends, n as u8);
     }
     let blank = [SPARE; 32];
     if !has_place(good, 0) {

@@ -1,24 +1,29 @@
--- `first_by_places` meets its contract. The loop: the places from which the blocks from j on go on, and the rows of the groups among them. Assumes nothing.
+-- `first_by_places` meets its contract. The loop: the places from which the blocks from j on go on, and the rows of the groups among them. It ends at the first block, or after it
+-- where that is a group. Assumes nothing.
 use native.Mathlib.Omega.{arith}
 use Rattle.records.specs.Records.{pairOf}
 use mathlib.Core.Path.{_≡_, refl, sym, _∙_, subst}
+use mathlib.Core.Bool.{true}
 use mathlib.Core.List.{List}
 use Prim.Native.Nat.{ℕ, _-_, _≤_, _<_}
-use lib.ListN.{length, take, length-set}
+use lib.ListN.{length, getD, take, set, length-set}
 use borrow.Author.Tests.{not-true, not-false}
 use Rattle.grammar.specs.Element.{Elem}
 use Rattle.grammar.specs.Leaf.{Leaf}
 use Rattle.grammar.specs.Blocks.{Standing}
+use Rattle.blocks.specs.Numbers.{blockIn}
 use Rattle.places.proofs.Backward.{ways-low}
-use Rattle.records.proofs.Loop.{Going, going-start, going-step, below-at, below-inside, prepares, no-cut}
+use Rattle.fronts.specs.Given.{Known, isGroup}
+use Rattle.records.proofs.Blocks.{left-most, left-first}
+use Rattle.records.proofs.Loop.{Going, going-start, going-step, gone-step, gone-known, below-at, below-inside, prepares, no-cut}
 use Rattle.records.proofs.first_by_places.Statement.{statement}
 use Rattle.records.proofs.first_by_places.Tie as tie
 
 abbrev Inv-loop : tie.InvT-loop
-Inv-loop t places members blocks count list n wide rows₀ ends₀ good₀ j₀ rows ends good j = ((es : List (Elem Leaf)) → Standing t es (take members places) → Going es list count blocks j good ends rows) × (length ends ≡ 32) × (j ≤ count)
+Inv-loop t places members blocks count list n wide rows₀ ends₀ good₀ last j₀ rows ends good j = ((es : List (Elem Leaf)) → Standing t es (take members places) → Going es list count blocks j good ends rows) × (length ends ≡ 32) × (j ≤ count)
 
 abbrev μ-loop : tie.MeasureT-loop
-μ-loop t places members blocks count list n wide rows₀ ends₀ good₀ j₀ rows ends good j = j
+μ-loop t places members blocks count list n wide rows₀ ends₀ good₀ last j₀ rows ends good j = j
 
 widened-requires : tie.Need-widened-requires Inv-loop μ-loop
 widened-requires c κs = c .before .pre .2
@@ -26,32 +31,38 @@ widened-requires c κs = c .before .pre .2
 with-place-requires : tie.Need-with-place-requires Inv-loop μ-loop
 with-place-requires c κs = omega (arith, c .before .before .pre .2)
 
+block-at-requires : tie.Need-block-at-requires Inv-loop μ-loop
+block-at-requires c κs = omega arith
+
+left-out-requires : tie.Need-left-out-requires Inv-loop μ-loop
+left-out-requires c κs = tt
+
 loop-holds : tie.Need-loop-holds Inv-loop μ-loop
-loop-holds c = (λ es s. going-start es _ _ _ _ (c .with-place .ensures), refl, omega arith)
+loop-holds c = (λ es s. going-start es _ _ _ _ (c .before .before .with-place .ensures), refl, omega arith)
 
 sub-j : tie.Need-sub-j Inv-loop μ-loop
-sub-j c = c .loop-test .taken
+sub-j c = omega (arith, c .loop-test .taken)
 
 mul-ends : tie.Need-mul-ends Inv-loop μ-loop
-mul-ends c = let L = c .before in omega (arith, c .loop-test .taken, L .loop .inv .2, L .before .before .before .before .pre .1)
+mul-ends c = let L = c .before in omega (arith, c .loop-test .taken, L .loop .inv .2, L .before .before .before .before .before .before .pre .1)
 
 array-write-ends : tie.Need-array-write-ends Inv-loop μ-loop
-array-write-ends c = let L = c .before in omega (arith, c .loop-test .taken, L .loop .inv .2, L .before .before .before .before .pre .1)
+array-write-ends c = let L = c .before in omega (arith, c .loop-test .taken, L .loop .inv .2, L .before .before .before .before .before .before .pre .1)
 
-block-at-requires : tie.Need-block-at-requires Inv-loop μ-loop
-block-at-requires c κs = let L = c .before in omega (arith, c .loop-test .taken, L .loop .inv .2, L .before .before .before .before .pre .1)
+block-at-requires-2 : tie.Need-block-at-requires-2 Inv-loop μ-loop
+block-at-requires-2 c κs = let L = c .before in omega (arith, c .loop-test .taken, L .loop .inv .2, L .before .before .before .before .before .before .pre .1)
 
 before-block-requires : tie.Need-before-block-requires Inv-loop μ-loop
 before-block-requires c κs =
     let L = c .before .before .before .before in
-    let start = L .before .before .before .before in
+    let start = L .before .before .before .before .before .before in
     let p = start .pre in
     let w = p .0 in
     let g = L .loop .inv .0 (w .who) (w .stands) in
     let low = c .before .before .before .loop-test .taken in
     let i = L .loop .j - 1 in
     let inside : i < start .args .count = omega (arith, low, L .loop .inv .2) in
-    (w, p .2, L .before .before .widened .ensures, g .size, rw (c .before .before .block-at .ensures) (below-at _ _ _ i inside (p .3)), ways-low (g .ways))
+    (w, p .2, L .before .before .before .before .widened .ensures, g .gone .size, rw (c .before .before .block-at2 .ensures) (below-at _ _ _ i inside (p .3)), ways-low (g .ways))
 
 loop-less : tie.Need-loop-less Inv-loop μ-loop
 loop-less c = omega (arith, c .before .before .before .before .loop-test .taken)
@@ -59,47 +70,97 @@ loop-less c = omega (arith, c .before .before .before .before .loop-test .taken)
 loop-again : tie.Need-loop-again Inv-loop μ-loop
 loop-again c =
     let L = c .before .before .before .before .before in
-    let p = L .before .before .before .before .pre in
+    let p = L .before .before .before .before .before .before .pre in
     let low = c .before .before .before .before .loop-test .taken in
     let i = L .loop .inv in (
-      λ es s. going-step es _ _ _ _ _ _ _ _ (i .0 es s) _ (c .before .before .before .block-at .ensures) (omega (arith, low)) (i .2) (i .1) (p .1) _ _ (c .before-block .ensures es s),
+      λ es s. going-step es _ _ _ _ _ _ _ _ (i .0 es s) _ (c .before .before .before .block-at2 .ensures) (omega (arith, low)) (i .2) (i .1) (p .1) _ _ (c .before-block .ensures es s),
       length-set (L .loop .ends) (L .loop .j - 1) (L .loop .good) ∙ i .1,
       omega (arith, i .2),
     )
 
+-- ---- the first block is a group, and is left
+group-first : (c : tie.Then1 Inv-loop μ-loop) → let L = c .before .before in (L .loop .j ≡ 1) × (isGroup (blockIn (getD (L .before .before .before .before .before .before .args .blocks .now) 0 0)) ≡ true)
+group-first c =
+    let L = c .before .before in
+    let b = L .before .before .block-at .result in
+    let is = L .before .before .block-at .ensures in
+    let last = L .before .left-out .ensures in
+    let few = left-most b in
+    (omega (arith, last, few, c .before .loop-test .left, c .if1 .taken), subst (λ d. isGroup d ≡ true) is (left-first b (omega (arith, last, c .before .loop-test .left, c .if1 .taken))))
+
+array-write-ends-2 : tie.Need-array-write-ends-2 Inv-loop μ-loop
+array-write-ends-2 c = omega arith
+
+block-at-requires-3 : tie.Need-block-at-requires-3 Inv-loop μ-loop
+block-at-requires-3 c κs = omega arith
+
+-- there is a block
+some : (c : tie.Then1 Inv-loop μ-loop) → 0 < c .before .before .before .before .before .before .before .before .args .count
+some c = omega (arith, group-first c .0, c .before .before .loop .inv .2)
+
+mark-group-requires : tie.Need-mark-group-requires Inv-loop μ-loop
+mark-group-requires c κs =
+    let first = c .before .before .before in
+    let L = first .before .before in
+    let p = L .before .before .before .before .before .before .pre in
+    let w = p .0 in
+    (w, p .2, L .before .before .before .before .widened .ensures, L .loop .inv .0 (w .who) (w .stands) .gone .size, rw (c .before .before .block-at3 .ensures) (below-at _ _ _ 0 (some first) (p .3)))
+
+known : (c : tie.After-mark-group Inv-loop μ-loop) → let L = c .before .before .before .before .before .before in let a = L .before .before .before .before .before .before .args in
+    (es : List (Elem Leaf)) → Standing (a .t .now) es (take (a .members) (a .places .now)) → Known (pairOf es (a .list .now)) (c .mark-group .last .1 .1 .1 .1 .1 .0) (a .count) (a .blocks .now) (set (L .loop .ends) 0 (L .loop .good)) (length (a .list .now))
+known c es s =
+    let first = c .before .before .before .before in
+    let L = first .before .before in
+    let i = L .loop .inv in
+    gone-known es _ _ _ _ _ (gone-step es _ _ _ _ 0 _ _ _ (i .0 es s) _ (c .before .before .before .block-at3 .ensures) (group-first first .0) (i .2) (i .1) (L .before .before .before .before .before .before .pre .1) _ (c .mark-group .ensures es s))
+
+cast-first-cut-by-group : tie.Need-cast-first-cut-by-group Inv-loop μ-loop
+cast-first-cut-by-group c = omega (arith, c .before .before .before .before .before .before .before .before .before .before .before .before .before .before .pre .2)
+
+first-cut-by-group-requires : tie.Need-first-cut-by-group-requires Inv-loop μ-loop
+first-cut-by-group-requires c κs =
+    let marked = c .before .before in
+    let first = marked .before .before .before .before in
+    let start = first .before .before .before .before .before .before .before .before in
+    let p = start .pre in
+    let w = p .0 in
+    (some first, p .1, p .2, below-inside _ _ (w .few) (p .3), group-first first .1, record { may = pairOf (w .who) (start .args .list .now); known = known marked (w .who) (w .stands) })
+
+returns : tie.Need-returns Inv-loop μ-loop
+returns c = λ es s. c .first-cut-by-group .ensures _ (known (c .before .before .before) es s)
+
 has-place-requires : tie.Need-has-place-requires Inv-loop μ-loop
 has-place-requires c κs = omega arith
 
--- all blocks are gone through
-all-gone : (c : tie.After-loop Inv-loop μ-loop) → let start = c .before .before .before .before .before in
-    (es : List (Elem Leaf)) → Standing (start .args .t .now) es (take (start .args .members) (start .args .places .now)) → Going es (start .args .list .now) (start .args .count) (start .args .blocks .now) 0 (c .before .loop .good) (c .before .loop .ends) (c .before .loop .rows)
+-- ---- all blocks are gone through
+all-gone : (c : tie.Else1 Inv-loop μ-loop) → let L = c .before .before in let start = L .before .before .before .before .before .before in
+    (es : List (Elem Leaf)) → Standing (start .args .t .now) es (take (start .args .members) (start .args .places .now)) → Going es (start .args .list .now) (start .args .count) (start .args .blocks .now) 0 (L .loop .good) (L .loop .ends) (L .loop .rows)
 all-gone c es s =
-    let start = c .before .before .before .before .before in
-    let z : c .before .loop .j ≡ 0 = omega (arith, c .loop-test .left) in
-    subst (λ (x : ℕ). Going es (start .args .list .now) (start .args .count) (start .args .blocks .now) x (c .before .loop .good) (c .before .loop .ends) (c .before .loop .rows)) z (c .before .loop .inv .0 es s)
+    let L = c .before .before in
+    let start = L .before .before .before .before .before .before in
+    let z : L .loop .j ≡ 0 = omega (arith, c .if1 .left) in
+    subst (λ (x : ℕ). Going es (start .args .list .now) (start .args .count) (start .args .blocks .now) x (L .loop .good) (L .loop .ends) (L .loop .rows)) z (L .loop .inv .0 es s)
 
-returns : tie.Need-returns Inv-loop μ-loop
-returns c =
-    let gone = c .before .before in
-    λ es s. no-cut es _ _ _ _ _ _ (all-gone gone es s) (sym (c .before .has-place .ensures) ∙ not-true _ (c .if1 .taken)) _ refl
+returns-2 : tie.Need-returns-2 Inv-loop μ-loop
+returns-2 c = λ es s. no-cut es _ _ _ _ _ _ (all-gone (c .before .before) es s) (sym (c .before .has-place .ensures) ∙ not-true _ (c .if2 .taken)) _ refl
 
 cast-first-cut-from : tie.Need-cast-first-cut-from Inv-loop μ-loop
-cast-first-cut-from c = omega (arith, c .before .before .before .before .before .before .before .before .before .pre .2)
+cast-first-cut-from c = omega (arith, c .before .before .before .before .before .before .before .before .before .before .before .before .pre .2)
 
 first-cut-from-requires : tie.Need-first-cut-from-requires Inv-loop μ-loop
 first-cut-from-requires c κs =
     let there = c .before .before in
     let gone = there .before .before in
-    let start = gone .before .before .before .before .before in
+    let start = gone .before .before .before .before .before .before .before .before in
     let p = start .pre in
     let w = p .0 in
-    (p .1, p .2, below-inside _ _ (w .few) (p .3), record { may = pairOf (w .who) (start .args .list .now); prepares = prepares (w .who) _ _ _ _ _ _ (all-gone gone (w .who) (w .stands)) (sym (there .before .has-place .ensures) ∙ not-false _ (there .if1 .left)) })
+    (p .1, p .2, below-inside _ _ (w .few) (p .3), record { may = pairOf (w .who) (start .args .list .now); prepares = prepares (w .who) _ _ _ _ _ _ (all-gone gone (w .who) (w .stands)) (sym (there .before .has-place .ensures) ∙ not-false _ (there .if2 .left)) })
 
-returns-2 : tie.Need-returns-2 Inv-loop μ-loop
-returns-2 c =
+returns-3 : tie.Need-returns-3 Inv-loop μ-loop
+returns-3 c =
     let there = c .before .before .before in
     let gone = there .before .before in
-    λ es s. c .first-cut-from .ensures _ (prepares es _ _ _ _ _ _ (all-gone gone es s) (sym (there .before .has-place .ensures) ∙ not-false _ (there .if1 .left)))
+    λ es s. c .first-cut-from .ensures _ (prepares es _ _ _ _ _ _ (all-gone gone es s) (sym (there .before .has-place .ensures) ∙ not-false _ (there .if2 .left)))
 
 pub first-by-places-spec : {M : Type 1} → statement M
 first-by-places-spec =
@@ -109,16 +170,24 @@ first-by-places-spec =
     μ-loop
     widened-requires
     with-place-requires
+    block-at-requires
+    left-out-requires
     loop-holds
     sub-j
     mul-ends
     array-write-ends
-    block-at-requires
+    block-at-requires-2
     before-block-requires
     loop-less
     loop-again
-    has-place-requires
+    array-write-ends-2
+    block-at-requires-3
+    mark-group-requires
+    cast-first-cut-by-group
+    first-cut-by-group-requires
     returns
+    has-place-requires
+    returns-2
     cast-first-cut-from
     first-cut-from-requires
-    returns-2)
+    returns-3)

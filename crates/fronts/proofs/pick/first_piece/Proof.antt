@@ -1,4 +1,6 @@
 -- `first_piece` meets its contract. The invariant: the list is the first so far (`Picking`). The measure is how many places are left. Assumes nothing.
+use Rattle.place_masks.proofs.PlaceBits.{bit-pos}
+use Rattle.fronts.proofs.Picked.{tried-leading}
 use Rattle.fronts.proofs.Moves.{picked-all}
 use Rattle.fronts.specs.Picks.{Picking}
 use Rattle.rows.specs.Rows.{may}
@@ -15,10 +17,10 @@ abbrev μ-loop : tie.MeasureT-loop
 μ-loop rows b places ends best₀ s₀ best s = count (bit (s .rest)) 64
 
 start-requires : tie.Need-start-requires Inv-loop μ-loop
-start-requires c κs = c .before .pre
+start-requires c κs = let p = c .before .pre in (p .0, p .1, p .2, bit-pos _ _ (p .3 .here))
 
 loop-holds : tie.Need-loop-holds Inv-loop μ-loop
-loop-holds c = c .start .ensures
+loop-holds c = tried-leading (c .before .before .pre .3) (c .start .ensures)
 
 next-requires : tie.Need-next-requires Inv-loop μ-loop
 next-requires c κs = let l = c .before .before .before in let p = l .before .before .before .pre in (p .0, p .1, p .2, p .3, omega arith, l .loop .inv)
