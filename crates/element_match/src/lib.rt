@@ -14,6 +14,7 @@ use integers::within;
 use masks::flip;
 use masks::lowest;
 use masks::with;
+use masks::without_lowest;
 
 // ---- what a walk answers, in one number: the elements, and the place after what was walked over
 fn said(mask: u32, next: usize) -> u64
@@ -44,7 +45,7 @@ fn missed(list: &[i32], asked: u32, lower: i32, upper: i32) -> u32
     let mut left = asked;
     while left != 0 {
         let e = lowest(left);
-        left = flip(left, e);
+        left = without_lowest(left);
         let x = list[e as usize];
         if within(x, lower, upper) {
             rest = flip(rest, e);

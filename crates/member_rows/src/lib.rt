@@ -15,10 +15,10 @@ use elements::leaf::bounds_at;
 use format::LIST;
 use format::LIST_MOST;
 use integers::within;
-use masks::flip;
 use masks::lowest;
 use masks::span;
 use masks::with;
+use masks::without_lowest;
 
 // The list, with elements after it so that there are 32.
 pub fn widened(list: &[i32]) -> [i32; 32]
@@ -61,7 +61,7 @@ fn mark_hits(rows: &mut [u32; 32], m: u8, elements: u32)
     let mut left = elements;
     while left != 0 {
         let e = lowest(left);
-        left = flip(left, e);
+        left = without_lowest(left);
         let row = rows[e as usize];
         rows[e as usize] = with(row, m);
     }

@@ -21,6 +21,7 @@ use masks::lesser_byte;
 use masks::lowest;
 use masks::span;
 use masks::with;
+use masks::without_lowest;
 
 // Of the members that are left, those that may take e and are below its byte: who can make the list come earlier.
 fn rivals(rows: &[u32; 32], left: u32, byte: u8, e: u8) -> u32
@@ -40,7 +41,7 @@ fn holders(w: &[u8; 32], places: u32) -> u32
     let mut rest = places;
     while rest != 0 {
         let e = lowest(rest);
-        rest = flip(rest, e);
+        rest = without_lowest(rest);
         let m = w[e as usize];
         found = with(found, m);
     }

@@ -26,17 +26,17 @@ loop-holds c = testing-start _ _ _ _
 lowest-requires : tie.Need-lowest-requires Inv-loop μ-loop
 lowest-requires c κs = omega (arith, c .loop-test .taken)
 
-flip-requires : tie.Need-flip-requires Inv-loop μ-loop
-flip-requires c κs = c .lowest .ensures .low
+without-lowest-requires : tie.Need-without-lowest-requires Inv-loop μ-loop
+without-lowest-requires c κs = omega (arith, c .before .loop-test .taken)
 
 -- the element of this turn stands in the list
-here : (c : tie.After-flip Inv-loop μ-loop) → c .before .lowest .result < length (c .before .before .before .before .args .list .now)
+here : (c : tie.After-without-lowest Inv-loop μ-loop) → c .before .lowest .result < length (c .before .before .before .before .args .list .now)
 here c =
     let turn = c .before .before .before in
     turn .before .pre .inside (c .before .lowest .result) (turn .loop .inv .from (c .before .lowest .result) (c .before .lowest .ensures .inside))
 
-falls : (c : tie.After-flip Inv-loop μ-loop) → count (bit (c .flip .result)) 32 < count (bit (c .before .before .before .loop .left)) 32
-falls c = left-falls (c .before .lowest .result) (c .flip .ensures) (c .before .lowest .ensures .inside) (c .before .lowest .ensures .low) (λ j h. h)
+falls : (c : tie.After-without-lowest Inv-loop μ-loop) → count (bit (c .without-lowest .result)) 32 < count (bit (c .before .before .before .loop .left)) 32
+falls c = left-falls (c .before .lowest .result) (c .without-lowest .ensures _ _ (c .before .lowest .ensures)) (c .before .lowest .ensures .inside) (c .before .lowest .ensures .low) (λ j h. h)
 
 cast-x : tie.Need-cast-x Inv-loop μ-loop
 cast-x c = search needs
@@ -50,8 +50,8 @@ shared-slice-copy-out-x c = here c
 within-requires : tie.Need-within-requires Inv-loop μ-loop
 within-requires c κs = search needs
 
-flip-requires-2 : tie.Need-flip-requires-2 Inv-loop μ-loop
-flip-requires-2 c κs = c .before .before .before .before .lowest .ensures .low
+flip-requires : tie.Need-flip-requires Inv-loop μ-loop
+flip-requires c κs = c .before .before .before .before .lowest .ensures .low
 
 -- what the test said of it
 tested : (c : tie.After-within Inv-loop μ-loop) → let t = c .before .before in let a = t .before .before .before .before .args in
@@ -67,7 +67,7 @@ loop-less c = falls (c .before .before .before .before)
 loop-again : tie.Need-loop-again Inv-loop μ-loop
 loop-again c =
     let t = c .before .before .before .before in
-    testing-gone _ _ _ _ _ _ (t .before .before .before .loop .inv) _ _ (t .before .lowest .ensures .inside) (t .flip .ensures) (c .before .before .before .x .given) _ (tested (c .before .before) ∙ c .before .if1 .taken) (c .flip2 .ensures)
+    testing-gone _ _ _ _ _ _ (t .before .before .before .loop .inv) _ _ (t .before .lowest .ensures .inside) (t .without-lowest .ensures _ _ (t .before .lowest .ensures)) (c .before .before .before .x .given) _ (tested (c .before .before) ∙ c .before .if1 .taken) (c .flip .ensures)
 
 loop-less-2 : tie.Need-loop-less-2 Inv-loop μ-loop
 loop-less-2 c = falls (c .before .before .before)
@@ -75,7 +75,7 @@ loop-less-2 c = falls (c .before .before .before)
 loop-again-2 : tie.Need-loop-again-2 Inv-loop μ-loop
 loop-again-2 c =
     let t = c .before .before .before in
-    testing-kept _ _ _ _ _ _ (t .before .before .before .loop .inv) _ _ (t .before .lowest .ensures .inside) (t .flip .ensures) (c .before .before .x .given) (tested (c .before) ∙ c .if1 .left)
+    testing-kept _ _ _ _ _ _ (t .before .before .before .loop .inv) _ _ (t .before .lowest .ensures .inside) (t .without-lowest .ensures _ _ (t .before .lowest .ensures)) (c .before .before .x .given) (tested (c .before) ∙ c .if1 .left)
 
 returns : tie.Need-returns Inv-loop μ-loop
 returns c =
@@ -92,12 +92,12 @@ missed-spec =
     μ-loop
     loop-holds
     lowest-requires
-    flip-requires
+    without-lowest-requires
     cast-x
     mul-x
     shared-slice-copy-out-x
     within-requires
-    flip-requires-2
+    flip-requires
     loop-less
     loop-again
     loop-less-2

@@ -20,8 +20,8 @@ loop-holds c = marking-start _ _ _ (c .pre .0)
 lowest-requires : tie.Need-lowest-requires Inv-loop μ-loop
 lowest-requires c κs = omega (arith, c .loop-test .taken)
 
-flip-requires : tie.Need-flip-requires Inv-loop μ-loop
-flip-requires c κs = c .lowest .ensures .low
+without-lowest-requires : tie.Need-without-lowest-requires Inv-loop μ-loop
+without-lowest-requires c κs = omega (arith, c .before .loop-test .taken)
 
 cast-row : tie.Need-cast-row Inv-loop μ-loop
 cast-row c = search needs
@@ -47,12 +47,12 @@ element-write-rows c = omega (arith, c .before .before .before .lowest .ensures 
 loop-less : tie.Need-loop-less Inv-loop μ-loop
 loop-less c =
     let chosen = c .before .before .before in
-    left-falls (chosen .lowest .result) (c .before .before .flip .ensures) (chosen .lowest .ensures .inside) (chosen .lowest .ensures .low) (λ j h. h)
+    left-falls (chosen .lowest .result) (c .before .before .without-lowest .ensures _ _ (chosen .lowest .ensures)) (chosen .lowest .ensures .inside) (chosen .lowest .ensures .low) (λ j h. h)
 
 loop-again : tie.Need-loop-again Inv-loop μ-loop
 loop-again c =
     let chosen = c .before .before .before in
-    marking-step _ _ _ _ _ (chosen .before .before .loop .inv) _ _ _ (chosen .lowest .ensures .low) (chosen .lowest .ensures .inside) (c .before .before .flip .ensures) (c .with .ensures)
+    marking-step _ _ _ _ _ (chosen .before .before .loop .inv) _ _ _ (chosen .lowest .ensures .low) (chosen .lowest .ensures .inside) (c .before .before .without-lowest .ensures _ _ (chosen .lowest .ensures)) (c .with .ensures)
 
 returns : tie.Need-returns Inv-loop μ-loop
 returns c = marking-end _ _ _ _ _ (c .loop-test .left) (c .before .loop .inv)
@@ -65,7 +65,7 @@ mark-hits-spec =
     μ-loop
     loop-holds
     lowest-requires
-    flip-requires
+    without-lowest-requires
     cast-row
     mul-row
     element-copy-out-row

@@ -25,8 +25,8 @@ loop-holds c = (λ e h. h, holders-none (bit (c .args .places)) bit-none)
 lowest-requires : tie.Need-lowest-requires Inv-loop μ-loop
 lowest-requires c κs = omega (arith, c .loop-test .taken)
 
-flip-requires : tie.Need-flip-requires Inv-loop μ-loop
-flip-requires c κs = c .lowest .ensures .low
+without-lowest-requires : tie.Need-without-lowest-requires Inv-loop μ-loop
+without-lowest-requires c κs = omega (arith, c .before .loop-test .taken)
 
 cast-m : tie.Need-cast-m Inv-loop μ-loop
 cast-m c = omega (arith, c .before .lowest .ensures .low)
@@ -44,7 +44,7 @@ loop-less : tie.Need-loop-less Inv-loop μ-loop
 loop-less c =
     let turned = c .before .before in
     let lowest = turned .before .lowest in
-    left-falls (lowest .result) (turned .flip .ensures) (lowest .ensures .inside) (lowest .ensures .low) (λ j h. h)
+    left-falls (lowest .result) (turned .without-lowest .ensures _ _ (lowest .ensures)) (lowest .ensures .inside) (lowest .ensures .low) (λ j h. h)
 
 loop-again : tie.Need-loop-again Inv-loop μ-loop
 loop-again c =
@@ -52,8 +52,8 @@ loop-again c =
     let lowest = turned .before .lowest in
     let l = turned .before .before .before in
     let i = l .loop .inv in (
-      λ e h. i .0 e (flipped-down (turned .flip .ensures) (lowest .ensures .inside) e h),
-      holders-more (bit (l .before .args .places)) (lowest .result) (lowest .ensures .low) (lowest .ensures .inside) (i .0 _ (lowest .ensures .inside)) (turned .flip .ensures) (c .with .ensures) (i .1),
+      λ e h. i .0 e (flipped-down (turned .without-lowest .ensures _ _ (lowest .ensures)) (lowest .ensures .inside) e h),
+      holders-more (bit (l .before .args .places)) (lowest .result) (lowest .ensures .low) (lowest .ensures .inside) (i .0 _ (lowest .ensures .inside)) (turned .without-lowest .ensures _ _ (lowest .ensures)) (c .with .ensures) (i .1),
     )
 
 returns : tie.Need-returns Inv-loop μ-loop
@@ -65,4 +65,4 @@ returns c =
 pub holders-spec : {M : Type 1} → statement M
 holders-spec =
     tie.close
-    (tie.spec Inv-loop μ-loop loop-holds lowest-requires flip-requires cast-m element-copy-out-m with-requires loop-less loop-again returns)
+    (tie.spec Inv-loop μ-loop loop-holds lowest-requires without-lowest-requires cast-m element-copy-out-m with-requires loop-less loop-again returns)
