@@ -1,5 +1,6 @@
 -- The walk over the members of a list or a complement, turn by turn: who is asked about, and missed by the members so far. The invariant: however
--- the members were read, those still to come are the rest of them, and the mask has the asked elements that none of the others matches.
+-- the members were read, those still to come are the rest of them, and the mask has the asked elements that none of the others matches. The
+-- members of a list that stands among them take its place.
 -- Assumes nothing.
 use mathlib.Core.Path.{_≡_, refl, sym, ap, _∙_}
 use mathlib.Core.Bool.{Bool, true, false, not, _||_, _&&_, cond, or-false, Bool·not-not}
@@ -11,7 +12,7 @@ use lib.Dec.{eqb}
 use borrow.Author.Tests.{eqb-true}
 use lib.IntN.{ℤ, pos}
 use lib.Signed.{leZ}
-use lib.ListN.{length, getD, drop}
+use lib.ListN.{length, getD, drop, length-drop}
 use Rattle.facts.proofs.Cases.{same?, clash, and-left}
 use Rattle.masks.specs.Masks.{bit, Plus}
 use Rattle.masks.proofs.Masks.{bit-none, bits-same}
@@ -24,6 +25,7 @@ use Rattle.grammar.specs.Read.{got}
 use Rattle.grammar.specs.Reading.{counted, many, elem}
 use Rattle.grammar.specs.Matches.{matchesBy, leafMatches, matches, anyMatches}
 use Rattle.grammar.proofs.ReadApart.{grouped, many-inv, many-none}
+use Rattle.grammar.proofs.Deeper.{joined, any-joined, many-joined, members-deeper, elem-takes, members-take}
 use Rattle.elements.specs.Leaves.{LeafHere, BoundsHere}
 use Rattle.elements.proofs.LeafByKind.{any-is, bounds-test}
 use Rattle.elements.proofs.ElementByKind as by-kind
@@ -104,8 +106,9 @@ module _ (t : List ℕ) (p left : ℕ) (w : Here t p left) where
   pub last-kind : 4 ≤ getD t p 0 → (getD t p 0 ≡ 4 → ⊥) → getD t p 0 ≡ 5
   last-kind l n = omega (arith, by-kind.kind-most t p left (w .k) (w .e) (w .k′) (w .s′) (w .reads))
 
-  pub opened-last : 4 ≤ getD t p 0 → (getD t p 0 ≡ 4 → ⊥) → Opened t p left
-  opened-last l n = opened true (last-kind l n)
+  -- no leaf: a list or a complement
+  pub opened-group : 4 ≤ getD t p 0 → Opened t p left
+  opened-group l = ⊎-elim (λ (q : getD t p 0 ≡ 4). opened false q) (λ (q : getD t p 0 ≡ 4 → ⊥). opened true (last-kind l q)) (same? (getD t p 0) 4)
 
 module _ (t : List ℕ) (p left : ℕ) (xs : List ℤ) (asked mask next : ℕ) where
   pub leaf-misses : (lower upper : ℤ) → getD t p 0 < 4 → BoundsHere t p lower upper next → Missed xs asked lower upper mask → MemberMisses t p left xs asked mask next
@@ -125,20 +128,16 @@ module _ (t : List ℕ) (p left : ℕ) (xs : List ℤ) (asked mask next : ℕ) w
   pub leaf-misses-again : (lower upper : ℤ) → Word lower → Word upper → getD t p 0 < 4 → BoundsHere t p lower upper next → Missed xs asked (again lower) (again upper) mask → MemberMisses t p left xs asked mask next
   leaf-misses-again lower upper l u low h m = leaf-misses lower upper low h (rw (again-same lower l, again-same upper u) at m)
 
-  -- a list (c false) or a complement (c true)
-  pub group-misses : (c : Bool) → getD t p 0 ≡ cond c 5 4 → WalkTells (not c) t (p + 2) (getD t (p + 1) 0) (left - 1) xs asked mask next → MemberMisses t p left xs asked mask next
+  -- a complement
+  pub complement-misses : getD t p 0 ≡ 5 → WalkTells false t (p + 2) (getD t (p + 1) 0) (left - 1) xs asked mask next → MemberMisses t p left xs asked mask next
   unfolding matchesBy
-  group-misses c e h = record {
+  complement-misses e h = record {
     inside = h .inside;
     right = λ k v k′ s′ r.
-        let g = by-kind.by-group t p left k v k′ s′ r c e in
+        let g = by-kind.by-group t p left k v k′ s′ r true e in
         let y = h .right k (g .es) k′ s′ (g .reads) in
-        (tells-same (λ j q. grouped-misses c (g .es) (getD xs j (pos 0)) ∙ ap (λ o. not (matches o (getD xs j (pos 0)))) (sym (g .is))) (y .0), y .1);
+        (tells-same (λ j q. sym (ap (λ o. not (matches o (getD xs j (pos 0)))) (g .is) ∙ Bool·not-not (anyMatches (g .es) (getD xs j (pos 0))))) (y .0), y .1);
   }
-    where
-      grouped-misses : (c : Bool) (es : Elems Leaf) (x : ℤ) → turn (not c) (anyMatches es x) ≡ not (matches (grouped c es) x)
-      grouped-misses false es x = refl
-      grouped-misses true es x = sym (Bool·not-not (anyMatches es x))
 
 -- ---- the walk
 
@@ -197,6 +196,56 @@ module _ (t : List ℕ) (p m left : ℕ) (xs : List ℤ) (rest mask q : ℕ) (b 
         among = still-among (w .right (g .todo .leaves) (f .e) (f .k₁) (f .s₁) (f .one) .0) (g .among);
         goes = λ k es after end r. next-part (g .goes k es after end r);
       }
+
+-- ---- the bytes that are left
+
+-- each member takes one at least
+pub few : (t : List ℕ) (p m left : ℕ) → Members t p m left → m ≤ length t
+few t p m left z = omega (arith, length-drop p t, members-take left m (z .leaves) (drop p t) (z .found) (z .after) (z .rest) (z .reads))
+
+pub further : (t : List ℕ) (p left : ℕ) (xs : List ℤ) (asked mask q : ℕ) → Here t p left → MemberMisses t p left xs asked mask q → length t - q < length t - p
+further t p left xs asked mask q h w =
+    let behind = w .right (h .k) (h .e) (h .k′) (h .s′) (h .reads) .1 in
+    omega (arith, elem-takes left (h .k) (drop p t) (h .e) (h .k′) (h .s′) (h .reads), ap length behind, length-drop p t, length-drop q t)
+
+-- ---- a list inside
+
+-- a list at p: its members come first, and then those behind it
+record Unpacked (t : List ℕ) (p m left k : ℕ) (es : Elems Leaf) (k′ : ℕ) (s′ : List ℕ) : Type 0 where
+  pub fits : p + 2 ≤ length t
+  pub es₁ : Elems Leaf
+  pub reads : many (elem leafHead left) (m - 1 + getD t (p + 1) 0) k (drop (p + 2) t) ≡ got (counted es₁ k′) s′
+  pub same : (x : ℤ) → anyMatches es x ≡ anyMatches es₁ x
+
+module _ (t : List ℕ) (p m left : ℕ) (b : 0 < m) (list : getD t p 0 ≡ 4) where
+  unpacked : (k : ℕ) (es : Elems Leaf) (k′ : ℕ) (s′ : List ℕ) → many (elem leafHead left) m k (drop p t) ≡ got (counted es k′) s′ → Unpacked t p m left k es k′ s′
+  unfolding matchesBy
+  unpacked k es k′ s′ r =
+      let f = many-inv (elem leafHead left) m k (drop p t) es k′ s′ b r in
+      let g = by-kind.by-group t p left k (f .e) (f .k₁) (f .s₁) (f .one) false list in
+      let inner = members-deeper leafHead left (getD t (p + 1) 0) k (drop (p + 2) t) (g .es) (f .k₁) (f .s₁) (g .reads) in
+      let turned : m - 1 + getD t (p + 1) 0 ≡ getD t (p + 1) 0 + (m - 1) = omega arith in
+      record {
+        fits = g .fits;
+        es₁ = joined (g .es) (f .es₁);
+        reads = rw turned (many-joined (elem leafHead left) (getD t (p + 1) 0) (m - 1) k (drop (p + 2) t) (g .es) (f .k₁) (f .s₁) (f .es₁) k′ s′ inner (f .others));
+        same = λ x. ap (λ l. anyMatches l x) (f .both) ∙ ap (λ o. matches o x || anyMatches (f .es₁) x) (g .is) ∙ sym (any-joined leafMatches (g .es) (f .es₁) x);
+      }
+
+  pub step-into : (at n : ℕ) (xs : List ℤ) (asked rest : ℕ) → Going t at n left xs asked p m rest → Going t at n left xs asked (p + 2) (m - 1 + getD t (p + 1) 0) rest
+  step-into at n xs asked rest g =
+      let z = g .todo in
+      let u = unpacked (z .leaves) (z .found) (z .after) (z .rest) (z .reads) in
+      record {
+        todo = record { inside = u .fits; leaves = z .leaves; found = u .es₁; after = z .after; rest = z .rest; reads = u .reads };
+        among = g .among;
+        goes = λ k es after end r.
+            let y = g .goes k es after end r in
+            let v = unpacked (y .k₁) (y .es₁) after end (y .reads) in
+            record { k₁ = y .k₁; es₁ = v .es₁; ahead = y .ahead; reads = v .reads; both = λ x. y .both x ∙ ap (λ (o : Bool). y .ahead x || o) (v .same x); told = y .told };
+      }
+
+-- ---- the end
 
 module _ (t : List ℕ) (at n left : ℕ) (xs : List ℤ) (asked p m rest : ℕ) where
   pub done : m ≡ 0 → Going t at n left xs asked p m rest → WalkTells true t at n left xs asked rest p

@@ -62,7 +62,8 @@ fn others(asked: u32, those: u32) -> u32
 }
 
 // Of the asked elements those that none of the n element templates at `at` matches. Who is matched is not asked about again. A leaf is
-// read before any recursive call, which is faster; a kind that is no leaf's and no list's is a complement's.
+// read before any recursive call, which is faster. A list inside needs no call: none of its members is none of them among the others, so they
+// are simply next. A kind that is no leaf's and no list's is a complement's.
 fn none_of(t: &[u8], at: usize, n: usize, list: &[i32], asked: u32, left: usize) -> u64
     requires { ⌜ Members (now t) at n left × (length (now t) < 65536) × Among asked (now list) ⌝ }
     ensures { λ r. ⌜ WalkTells true (now (t .entry)) at n left (now (list .entry)) asked (maskIn r) (placeIn r) ⌝ }
@@ -76,16 +77,19 @@ fn none_of(t: &[u8], at: usize, n: usize, list: &[i32], asked: u32, left: usize)
             let b = bounds_at(t, p);
             rest = missed(list, rest, b.lower, b.upper);
             p = b.next;
+            more -= 1;
         } else {
-            let r = if kind == LIST {
-                none_of(t, p + COUNT_SIZE, t[p + 1] as usize, list, rest, left - 1)
+            let k = t[p + 1] as usize;
+            if kind == LIST {
+                p += COUNT_SIZE;
+                more = more - 1 + k;
             } else {
-                any_of(t, p + COUNT_SIZE, t[p + 1] as usize, list, rest, left - 1)
-            };
-            rest = mask_in(r);
-            p = place_in(r);
+                let r = any_of(t, p + COUNT_SIZE, k, list, rest, left - 1);
+                rest = mask_in(r);
+                p = place_in(r);
+                more -= 1;
+            }
         }
-        more -= 1;
     }
     said(rest, p)
 }

@@ -87,7 +87,7 @@ pub record First {L : Type 0} (p : ℕ → List ℕ → Read (Counted (Elem L)))
   pub both : es ≡ more e es₁
 
 module _ {L : Type 0} (p : ℕ → List ℕ → Read (Counted (Elem L))) where
-  many-first : (n k : ℕ) (s : List ℕ) (es : Elems L) (k′ : ℕ) (s′ : List ℕ) → many p (suc n) k s ≡ got (counted es k′) s′ → First p n k s es k′ s′
+  pub many-first : (n k : ℕ) (s : List ℕ) (es : Elems L) (k′ : ℕ) (s′ : List ℕ) → many p (suc n) k s ≡ got (counted es k′) s′ → First p n k s es k′ s′
   unfolding many thenMore putFirst
   many-first n k s es k′ s′ q = go (p k s) refl q
     where

@@ -1,12 +1,12 @@
--- The cycle of `any_of` and `none_of`: `none_of` goes over the members, and calls both with one depth less; `any_of` is `none_of` turned round. The loop:
--- however the members were read, those from p on are the rest of them, and `rest` has the asked elements that the others miss. Assumes nothing.
-use mathlib.Core.Path.{sym, ap, _∙_}
+-- The cycle of `any_of` and `none_of`: `none_of` goes over the members, and calls `any_of` with one depth less for a complement; `any_of` is `none_of` turned
+-- round. The loop: however the members were read, those from p on, with the members of a list in its place, are the rest of them, and `rest` has the
+-- asked elements that the others miss. Each turn takes a byte at least. Assumes nothing.
+use mathlib.Core.Path.{sym}
 use mathlib.Core.Bool.{true, false}
-use mathlib.Core.Logic.{⊎-elim}
 use native.Mathlib.Omega.{arith}
-use Prim.Native.Nat.{ℕ, _+_, _*_, _<_}
-use Rattle.element_match.specs.Contract.{maskIn, placeIn}
-use Rattle.element_match.proofs.Walks.{Here, MemberMisses, here-fits, leaf-there, opened, last-kind, opened-last, leaf-misses-again, group-misses, Going, start, here, step, done, retold, member-retold, turned-round}
+use Prim.Native.Nat.{ℕ, _+_, _-_, _*_, _<_}
+use lib.ListN.{length}
+use Rattle.element_match.proofs.Walks.{Here, MemberMisses, here-fits, leaf-there, last-kind, opened-group, leaf-misses-again, complement-misses, Going, start, here, step, few, further, step-into, done, retold, member-retold, turned-round}
 use borrow.Fn.Kinds.{In}
 use borrow.Fn.PlainCycle.{Measures, is, falls, and}
 use Rattle.element_match.proofs.any_of.Reads as any-of
@@ -47,8 +47,7 @@ abbrev any-calls : ℕ → any-of-lts.Claims
 any-calls t = (none-of-below t, none-of.Post, mask-in-reads.Asked, mask-in-reads.Learnt, others-reads.Asked, others-reads.Learnt, place-in-reads.Asked, place-in-reads.Learnt, said-reads.Asked, said-reads.Learnt)
 
 abbrev none-calls : ℕ → none-of-lts.Claims
-none-calls t =
-    (bounds-at-reads.Asked, bounds-at-reads.Learnt, missed-reads.Asked, missed-reads.Learnt, none-of-below t, none-of.Post, any-of-below t, any-of.Post, mask-in-reads.Asked, mask-in-reads.Learnt, place-in-reads.Asked, place-in-reads.Learnt, said-reads.Asked, said-reads.Learnt)
+none-calls t = (bounds-at-reads.Asked, bounds-at-reads.Learnt, missed-reads.Asked, missed-reads.Learnt, any-of-below t, any-of.Post, mask-in-reads.Asked, mask-in-reads.Learnt, place-in-reads.Asked, place-in-reads.Learnt, said-reads.Asked, said-reads.Learnt)
 
 -- ---- any_of
 
@@ -66,7 +65,7 @@ abbrev Inv-loop : none-of-lts.InvT-loop
 Inv-loop t at n list asked left rest₀ p₀ more₀ rest p more = Going t at n left list asked p more rest
 
 abbrev μ-loop : none-of-lts.MeasureT-loop
-μ-loop t at n list asked left rest₀ p₀ more₀ rest p more = more
+μ-loop t at n list asked left rest₀ p₀ more₀ rest p more = length t - p
 
 -- the member that a turn is at
 module _ (t : ℕ) (c : none-of-lts.In-loop (none-calls t) (none-of-at t) none-of.Post Inv-loop μ-loop) where
@@ -76,21 +75,55 @@ module _ (t : ℕ) (c : none-of-lts.In-loop (none-calls t) (none-of-at t) none-o
   member : Here (start-of .args .t .now) (c .before .loop .p) (start-of .args .left)
   member = here _ _ _ _ (c .loop-test .taken) (c .before .loop .inv .todo)
 
--- what the arms found of it
-missed-by : (t : ℕ) (c : none-of-lts.Joined1 (none-calls t) (none-of-at t) none-of.Post Inv-loop μ-loop)
-    → MemberMisses (start-of t (c .before .before) .args .t .now) (c .before .before .before .loop .p) (start-of t (c .before .before) .args .left) (start-of t (c .before .before) .args .list .now) (c .before .before .before .loop .rest) (c .if1 .rest) (c .if1 .p)
-missed-by t c =
-    ⊎-elim
-    (λ v. member-retold _ _ _ _ _ (v .5) (v .6) (leaf-misses-again _ _ _ _ _ _ _ _ _ (v .2 .given .0 .1) (v .2 .given .1 .0 .1) (v .0 .taken) (v .1 .ensures) (v .4 .ensures)))
-    (λ v. member-retold _ _ _ _ _ (v .4 ∙ v .2 .ensures) (v .5 ∙ v .3 .ensures) (⊎-elim
-    (λ u. member-retold _ _ _ _ _ (ap maskIn (u .3)) (ap placeIn (u .3)) (group-misses _ _ _ _ _ _ _ false (u .0 .taken) (u .2 .ensures)))
-    (λ u. member-retold _ _ _ _ _ (ap maskIn (u .3)) (ap placeIn (u .3)) (group-misses _ _ _ _ _ _ _ true (last-kind _ _ _ (member t (c .before .before)) (v .0 .left) (u .0 .left)) (u .2 .ensures)))
-    (v .1 .came)))
-    (c .if1 .came)
+  -- the asked elements that it misses, and the place after it
+  abbrev Misses : ℕ → ℕ → Type 0
+  Misses rest p = MemberMisses (start-of .args .t .now) (c .before .loop .p) (start-of .args .left) (start-of .args .list .now) (c .before .loop .rest) rest p
 
-none-of-loop-again : (t : ℕ) → none-of-lts.Need-loop-again (none-calls t) (none-of-at t) none-of.Post Inv-loop μ-loop
-none-of-loop-again t c =
-    step _ _ _ _ _ _ _ _ (c .before .before .loop-test .taken) (missed-by t c) _ _ _ (c .before .before .before .loop .inv)
+-- a leaf
+leaf-missed : (t : ℕ) (c : none-of-lts.After-missed (none-calls t) (none-of-at t) none-of.Post Inv-loop μ-loop) → Misses t (c .before .before .before .before .before .before) (c .missed .result) (c .before .before .before .bounds-at .result .next)
+leaf-missed t c =
+    let told = c .before .before in
+    let bounds = told .before in
+    leaf-misses-again _ _ _ _ _ _ _ _ _ (told .struct-told .given .0 .1) (told .struct-told .given .1 .0 .1) (bounds .before .if1 .taken) (bounds .bounds-at .ensures) (c .missed .ensures)
+
+leaf-again : (t : ℕ) → none-of-lts.Need-loop-again (none-calls t) (none-of-at t) none-of.Post Inv-loop μ-loop
+leaf-again t c =
+    let turn = c .before .before .before .before .before .before in
+    step _ _ _ _ _ _ _ _ (turn .loop-test .taken) (leaf-missed t c) _ _ _ (turn .before .loop .inv)
+
+leaf-less : (t : ℕ) → none-of-lts.Need-loop-less (none-calls t) (none-of-at t) none-of.Post Inv-loop μ-loop
+leaf-less t c = further _ _ _ _ _ _ _ (member t (c .before .before .before .before .before .before)) (leaf-missed t c)
+
+-- a list: its members are next
+list-counted : (t : ℕ) → none-of-lts.Need-add-more (none-calls t) (none-of-at t) none-of.Post Inv-loop μ-loop
+list-counted t c =
+    let turn = c .before .before .before .before in
+    omega (arith, few _ _ _ _ (turn .before .loop .inv .todo), start-of t turn .pre .1 .1, c .before .shared-slice-known3 .given (turn .before .loop .p + 1))
+
+list-again : (t : ℕ) → none-of-lts.Need-loop-again-2 (none-calls t) (none-of-at t) none-of.Post Inv-loop μ-loop
+list-again t c =
+    let turn = c .before .before .before .before in
+    step-into _ _ _ _ (turn .loop-test .taken) (c .if2 .taken) _ _ _ _ _ (turn .before .loop .inv)
+
+list-less : (t : ℕ) → none-of-lts.Need-loop-less-2 (none-calls t) (none-of-at t) none-of.Post Inv-loop μ-loop
+list-less t c = omega (arith, opened-group _ _ _ (member t (c .before .before .before .before)) (c .before .before .if1 .left) .fits)
+
+-- a complement
+complement-missed : (t : ℕ) (c : none-of-lts.After-place-in (none-calls t) (none-of-at t) none-of.Post Inv-loop μ-loop) → Misses t (c .before .before .before .before .before .before .before) (c .before .mask-in .result) (c .place-in .result)
+complement-missed t c =
+    let walk = c .before .before in
+    let no-list = walk .before in
+    let no-leaf = no-list .before .before in
+    member-retold _ _ _ _ _ (c .before .mask-in .ensures) (c .place-in .ensures)
+    (complement-misses _ _ _ _ _ _ _ (last-kind _ _ _ (member t (no-leaf .before .before)) (no-leaf .if1 .left) (no-list .if2 .left)) (walk .any-of .ensures))
+
+complement-again : (t : ℕ) → none-of-lts.Need-loop-again-3 (none-calls t) (none-of-at t) none-of.Post Inv-loop μ-loop
+complement-again t c =
+    let turn = c .before .before .before .before .before .before .before in
+    step _ _ _ _ _ _ _ _ (turn .loop-test .taken) (complement-missed t c) _ _ _ (turn .before .loop .inv)
+
+complement-less : (t : ℕ) → none-of-lts.Need-loop-less-3 (none-calls t) (none-of-at t) none-of.Post Inv-loop μ-loop
+complement-less t c = further _ _ _ _ _ _ _ (member t (c .before .before .before .before .before .before .before)) (complement-missed t c)
 
 -- ---- both
 
@@ -104,38 +137,38 @@ pub +any-of+none-of-spec : {M : Type 1} → statement M
     (λ c κs. let walk = c .before .before .before in omega (arith, c .place-in .ensures, walk .none-of .ensures .inside, walk .before .before .pre .1 .1))
     (any-of-returns t))
     λ t. none-of-lts.spec (none-calls t) (none-of-at t) none-of.Post Inv-loop μ-loop
-    -- loop-holds, shared-slice-read-kind, bounds-at-requires, missed-requires
+    -- loop-holds, shared-slice-read-kind
     (λ c. start _ _ _ _ _ _ (c .before .pre .1 .2) (c .before .pre .1 .0))
     (λ c. omega (arith, here-fits _ _ _ (member t (c .before))))
+    -- a leaf: bounds-at-requires, missed-requires, sub-more, loop-less, loop-again
     (λ c κs. leaf-there _ _ _ (member t (c .before .before)) (c .if1 .taken))
     (λ c κs. c .before .before .before .before .before .before .loop .inv .among)
-    -- a list: add, add-2, shared-slice-read, cast, sub, none-of-requires
-    (λ c. omega (arith, opened _ _ _ (member t (c .before .before .before)) false (c .if2 .taken) .fits))
-    (λ c. omega (arith, opened _ _ _ (member t (c .before .before .before)) false (c .if2 .taken) .fits))
-    (λ c. omega (arith, opened _ _ _ (member t (c .before .before .before .before)) false (c .before .if2 .taken) .fits))
-    (λ c. omega (arith, c .shared-slice-known3 .given (c .before .before .before .before .before .loop .p + 1)))
-    (λ c. opened _ _ _ (member t (c .before .before .before .before)) false (c .before .if2 .taken) .deep)
+    (λ c. c .before .before .before .before .before .before .loop-test .taken)
+    (leaf-less t)
+    (leaf-again t)
+    -- no leaf: add-k, shared-slice-read-k, cast-k
+    (λ c. omega (arith, opened-group _ _ _ (member t (c .before .before)) (c .if1 .left) .fits))
+    (λ c. omega (arith, opened-group _ _ _ (member t (c .before .before .before)) (c .before .if1 .left) .fits))
+    (λ c. omega (arith, c .shared-slice-known3 .given (c .before .before .before .before .loop .p + 1)))
+    -- a list: add-p, sub-more-2, add-more, loop-less-2, loop-again-2
+    (λ c. omega (arith, opened-group _ _ _ (member t (c .before .before .before .before)) (c .before .before .if1 .left) .fits))
+    (λ c. c .before .before .before .before .loop-test .taken)
+    (list-counted t)
+    (list-less t)
+    (list-again t)
+    -- a complement: add-any-of, sub-any-of, any-of-requires, mask-in-requires, place-in-requires, sub-more-3, loop-less-3, loop-again-3
+    (λ c. omega (arith, opened-group _ _ _ (member t (c .before .before .before .before)) (c .before .before .if1 .left) .fits))
+    (λ c. opened-group _ _ _ (member t (c .before .before .before .before)) (c .before .before .if1 .left) .deep)
     (λ c κs.
-    let at-member = c .before .before .before .before in
-    let i = opened _ _ _ (member t at-member) false (c .before .if2 .taken) in
-    let s = start-of t at-member in
-    (omega (arith, s .pre .0, i .deep), (i .members, s .pre .1 .1, at-member .before .loop .inv .among)))
-    -- a complement: add, add-2, shared-slice-read, cast, sub, any-of-requires
-    (λ c. omega (arith, opened-last _ _ _ (member t (c .before .before .before)) (c .before .if1 .left) (c .if2 .left) .fits))
-    (λ c. omega (arith, opened-last _ _ _ (member t (c .before .before .before)) (c .before .if1 .left) (c .if2 .left) .fits))
-    (λ c. omega (arith, opened-last _ _ _ (member t (c .before .before .before .before)) (c .before .before .if1 .left) (c .before .if2 .left) .fits))
-    (λ c. omega (arith, c .shared-slice-known4 .given (c .before .before .before .before .before .loop .p + 1)))
-    (λ c. opened-last _ _ _ (member t (c .before .before .before .before)) (c .before .before .if1 .left) (c .before .if2 .left) .deep)
-    (λ c κs.
-    let at-member = c .before .before .before .before in
-    let i = opened-last _ _ _ (member t at-member) (c .before .before .if1 .left) (c .before .if2 .left) in
-    let s = start-of t at-member in
-    (omega (arith, s .pre .0, i .deep), (i .members, s .pre .1 .1, at-member .before .loop .inv .among)))
-    -- mask-in-requires, place-in-requires, sub-more, loop-less, loop-again, said-requires, returns
+    let turn = c .before .before .before .before in
+    let i = opened-group _ _ _ (member t turn) (c .before .before .if1 .left) in
+    let s = start-of t turn in
+    (omega (arith, s .pre .0, i .deep), (i .members, s .pre .1 .1, turn .before .loop .inv .among)))
     (λ c κs. tt)
     (λ c κs. tt)
-    (λ c. c .before .before .loop-test .taken)
-    (λ c. omega (arith, c .before .before .loop-test .taken))
-    (none-of-loop-again t)
+    (λ c. c .before .before .before .before .before .before .before .loop-test .taken)
+    (complement-less t)
+    (complement-again t)
+    -- said-requires, returns
     (λ c κs. omega (arith, c .before .loop .inv .todo .inside, c .before .before .before .pre .1 .1))
     (λ c. retold true _ _ _ _ _ _ (sym (c .said .ensures .0)) (sym (c .said .ensures .1)) (done _ _ _ _ _ _ _ _ _ (omega (arith, c .before .loop-test .left)) (c .before .before .loop .inv)))

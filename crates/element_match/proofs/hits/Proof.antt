@@ -4,7 +4,7 @@ use mathlib.Core.Bool.{true, false}
 use Prim.Native.Nat.{_+_}
 use native.Mathlib.Omega.{arith}
 use Rattle.integers.specs.Integer.{Word}
-use Rattle.element_match.proofs.Walks.{Here, whole-here, here-fits, any-matched, leaf-there, opened, last-kind, opened-last, leaf-misses-again, matched, group-matched, retold}
+use Rattle.element_match.proofs.Walks.{Here, whole-here, here-fits, any-matched, leaf-there, opened, last-kind, opened-group, leaf-misses-again, matched, group-matched, retold}
 use borrow.Author.Needs.{needs}
 use Rattle.element_match.proofs.hits.Statement.{statement}
 use Rattle.element_match.proofs.hits.Tie as tie
@@ -69,7 +69,7 @@ add-none-of-2 : tie.Need-add-none-of-2
 add-none-of-2 c = search needs
 
 shared-slice-read-none-of : tie.Need-shared-slice-read-none-of
-shared-slice-read-none-of c = omega (arith, opened-last _ _ _ (whole (c .before .before .before .before .before .before)) (c .before .before .if2 .left) (c .before .if3 .left) .fits)
+shared-slice-read-none-of c = omega (arith, opened-group _ _ _ (whole (c .before .before .before .before .before .before)) (c .before .before .if2 .left) .fits)
 
 cast-none-of : tie.Need-cast-none-of
 cast-none-of c = omega (arith, c .shared-slice-known4 .given (c .before .before .before .before .before .before .args .at + 1))
@@ -80,7 +80,7 @@ sub-none-of c = search needs
 none-of-requires : tie.Need-none-of-requires
 none-of-requires c κs =
     let s = c .before .before .before .before .before .before in
-    (opened-last _ _ _ (whole s) (c .before .before .if2 .left) (c .before .if3 .left) .members, s .pre .1, s .pre .2)
+    (opened-group _ _ _ (whole s) (c .before .before .if2 .left) .members, s .pre .1, s .pre .2)
 
 mask-in-requires-2 : tie.Need-mask-in-requires-2
 mask-in-requires-2 c κs = search needs
