@@ -3,7 +3,7 @@
 -- members of a list that stands among them take its place.
 -- Assumes nothing.
 use mathlib.Core.Path.{_≡_, refl, sym, ap, _∙_}
-use mathlib.Core.Bool.{Bool, true, false, not, _||_, _&&_, cond, or-false, Bool·not-not}
+use mathlib.Core.Bool.{Bool, true, false, not, _||_, _&&_, cond, or-false, Bool·not-not, and-true, or-assoc}
 use mathlib.Core.Logic.{⊎-elim}
 use mathlib.Core.List.{List}
 use Prim.Native.Nat.{ℕ, _+_, _-_, _≤_, _<_}
@@ -46,14 +46,6 @@ both-missed : (asked before one : Bool) → ((asked && not before) && not one) �
 both-missed true true one = refl
 both-missed true false one = refl
 both-missed false before one = refl
-
-or-assoc : (a b c : Bool) → (a || (b || c)) ≡ ((a || b) || c)
-or-assoc true b c = refl
-or-assoc false b c = refl
-
-and-true : (a : Bool) → a ≡ (a && true)
-and-true true = refl
-and-true false = refl
 
 -- whoever is missed was asked about
 pub still-among : {asked mask : ℕ} {test : ℕ → Bool} {xs : List ℤ} → Tells asked test mask → Among asked xs → Among mask xs
@@ -159,7 +151,7 @@ pub start : (t : List ℕ) (at n left : ℕ) (xs : List ℤ) (asked : ℕ) → A
 start t at n left xs asked among m = record {
   todo = m;
   among = among;
-  goes = λ k es after end r. record { k₁ = k; es₁ = es; ahead = λ x. false; reads = r; both = λ x. refl; told = record { told = λ j. and-true (bit asked j) } };
+  goes = λ k es after end r. record { k₁ = k; es₁ = es; ahead = λ x. false; reads = r; both = λ x. refl; told = record { told = λ j. sym (and-true (bit asked j)) } };
 }
 
 pub here : (t : List ℕ) (p m left : ℕ) → 0 < m → Members t p m left → Here t p left
@@ -184,7 +176,7 @@ module _ (t : List ℕ) (p m left : ℕ) (xs : List ℤ) (rest mask q : ℕ) (b 
         es₁ = f .es₁;
         ahead = λ x. z .ahead x || matches (f .e) x;
         reads = ap (many (elem leafHead left) (m - 1) (f .k₁)) (v .1) ∙ f .others;
-        both = λ x. z .both x ∙ ap (λ l. z .ahead x || anyMatches l x) (f .both) ∙ or-assoc (z .ahead x) (matches (f .e) x) (anyMatches (f .es₁) x);
+        both = λ x. z .both x ∙ ap (λ l. z .ahead x || anyMatches l x) (f .both) ∙ sym (or-assoc (z .ahead x) (matches (f .e) x) (anyMatches (f .es₁) x));
         told = record { told = λ j. v .0 .told j ∙ ap (λ (u : Bool). u && not (matches (f .e) (getD xs j (pos 0)))) (z .told .told j) ∙ both-missed (bit asked j) (z .ahead (getD xs j (pos 0))) (matches (f .e) (getD xs j (pos 0))) };
       }
 
@@ -305,7 +297,7 @@ any-matched t at xs asked q = record {
       let a = by-kind.by-leaf t at 8 0 e k rest r (omega arith) in
       let z = any-is t at (by-kind.leaf-there t at 8 0 e k rest r (omega arith)) (λ y. omega arith) (λ y. omega arith) in
       let same : a .l ≡ any = leaf-same (sym (a .reads) ∙ z .reads) in
-      record { told = λ j. and-true (bit asked j) ∙ ap (λ (v : Bool). bit asked j && v) (sym (ap (λ o. matches o (getD xs j (pos 0))) (a .is ∙ ap leaf same))) };
+      record { told = λ j. sym (and-true (bit asked j)) ∙ ap (λ (v : Bool). bit asked j && v) (sym (ap (λ o. matches o (getD xs j (pos 0))) (a .is ∙ ap leaf same))) };
 }
   where
     leaf-same : {l l′ : Leaf} {s s′ : List ℕ} → leafHere l s ≡ leafHere l′ s′ → l ≡ l′

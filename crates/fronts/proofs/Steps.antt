@@ -17,7 +17,7 @@ use Rattle.blocks.specs.Pieces.{Cuts, Best}
 use Rattle.blocks.proofs.Cutting.{cuts-order}
 use Rattle.places.specs.Ways.{Way, Ways}
 use Rattle.places.proofs.Backward.{way-leads}
-use Rattle.fronts.specs.Fronts.{Onward, Later, Pieced, Reached, Step, Leading, Standing, Moved, Underway}
+use Rattle.fronts.specs.Fronts.{Onward, Later, Pieced, Reached, Step, Leading, Moved, Underway}
 use Rattle.fronts.proofs.Orders.{later-not}
 
 -- a list that comes later than g comes later than g and anything behind it

@@ -1,7 +1,7 @@
 -- The places that the blocks so far reach, one block more at a time. Assumes nothing.
 use mathlib.Core.Path.{_≡_, refl, sym, ap, _∙_, subst}
 use mathlib.Core.Logic.{⊎-elim}
-use mathlib.Core.Bool.{Bool, true, false, not, _&&_}
+use mathlib.Core.Bool.{Bool, true, false, not, _&&_, and-true}
 use mathlib.Core.List.{List, [], _∷_, _++_}
 use Prim.Native.Nat.{ℕ, _+_, _≤_, _<_}
 use native.Mathlib.Numerals.{add-one}
@@ -66,10 +66,6 @@ module _ {may : ℕ → ℕ → Bool} {b : Block} {reach : ℕ} {w : List ℕ} {
 
   stays : (p : ℕ) → (p ≡ from → ⊥) → bit after p ≡ bit left p
   stays p n = out p ∙ ap (λ (v : Bool). bit left p && not v) (single .other p n ∙ bit-none p) ∙ and-true (bit left p)
-    where
-      and-true : (a : Bool) → (a && true) ≡ a
-      and-true true = refl
-      and-true false = refl
 
   pub extending-step : {more : ℕ} → Ends may b from (length w + 1) w next more → Extending may b reach w after more
   extending-step {more} e = record {

@@ -11,7 +11,6 @@ use Rattle.blocks.proofs.LentBlocks.{lent-inside}
 use Rattle.place_masks.proofs.PlaceBits.{bit-pos}
 use Rattle.places.specs.Ways.{Low, Leads}
 use Rattle.places.proofs.Backward.{ways-low}
-use Rattle.fronts.specs.Fronts.{Standing}
 use Rattle.fronts.specs.Picks.{Picking}
 use Rattle.fronts.specs.Given.{Known, Halfway, isGroup}
 use Rattle.fronts.proofs.Moves.{low-most}

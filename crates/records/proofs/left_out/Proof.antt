@@ -1,6 +1,5 @@
 -- `left_out` meets its contract. Assumes nothing.
 use mathlib.Core.Path.{sym, _∙_}
-use native.Mathlib.Omega.{arith}
 use Rattle.records.proofs.Blocks.{left-spares, left-member, left-group}
 use borrow.Author.Needs.{needs}
 use Rattle.records.proofs.left_out.Statement.{statement}
