@@ -3,17 +3,20 @@
 use mathlib.Core.Path.{_≡_, refl, sym}
 use mathlib.Core.List.{List, []}
 use Prim.Native.Nat.{ℕ}
-use lib.IntN.{ℤ}
 use denote.Ref.{RefT}
+use Rattle.format.specs.declared.Family.{Family}
+use Rattle.grammar.specs.Family.{ElementOf}
 use Rattle.matching.specs.Answer.{Given, given, matchAnswer, judgeAnswer}
 use Rattle.forms.specs.Answer.{Answer, answer, normalised}
 use Rattle.demands.specs.Calls.{MatchCall, JudgeCall, NormalCall}
 
-pub match-answer : (t : List ℕ) (xs : List ℤ) (room : List ℕ) (r : ℕ) (after : List ℕ) → MatchCall t xs room r after → matchAnswer t xs room ≡ given r after
-match-answer t xs room r after c = let p = c .allowed in let a = c .bytes in let b = c .list in let d = c .roomThen in let e = c .roomNow in cc
+pub match-answer : (fam : Family) (t : List ℕ) (xs : List (ElementOf fam)) (room : List ℕ) (r : ℕ) (after : List ℕ) → MatchCall fam t xs room r after → matchAnswer fam t xs room ≡ given r after
+match-answer Family.Integers t xs room r after c = let p = c .allowed in let a = c .bytes in let b = c .list in let d = c .roomThen in let e = c .roomNow in cc
+match-answer Family.Floats t xs room r after c = let p = c .allowed in let a = c .bytes in let b = c .list in let d = c .roomThen in let e = c .roomNow in cc
 
-pub judge-answer : (t : List ℕ) (xs : List ℤ) (w : List ℕ) (r : ℕ) → JudgeCall t xs w r → judgeAnswer t xs w ≡ r
-judge-answer t xs w r c = let p = c .allowed in let a = c .bytes in let b = c .list in let d = c .offered in cc
+pub judge-answer : (fam : Family) (t : List ℕ) (xs : List (ElementOf fam)) (w : List ℕ) (r : ℕ) → JudgeCall fam t xs w r → judgeAnswer fam t xs w ≡ r
+judge-answer Family.Integers t xs w r c = let p = c .allowed in let a = c .bytes in let b = c .list in let d = c .offered in cc
+judge-answer Family.Floats t xs w r c = let p = c .allowed in let a = c .bytes in let b = c .list in let d = c .offered in cc
 
 pub normal-answer : (t room : List ℕ) (n l : ℕ) (after : List ℕ) → NormalCall t room n l after → normalised t room ≡ answer n l after
 normal-answer t room n l after c =
@@ -24,40 +27,58 @@ normal-answer t room n l after c =
 ref : {A : Type 0} → A → RefT A
 ref x = record { ptr = (0, 0); name = 0; now = x }
 
-pub match-called : (t : List ℕ) (xs : List ℤ) (room : List ℕ) → (r : ℕ) × (after : List ℕ) × MatchCall t xs room r after
+match-lent : (fam : Family) (t : List ℕ) (xs : List (ElementOf fam)) (room : List ℕ) (r : ℕ) (after : List ℕ) → matchAnswer fam t xs room ≡ given r after → MatchCall fam t xs room r after
 unfolding ref
-match-called t xs room = go (matchAnswer t xs room) refl
-  where
-    go : (g : Given) → matchAnswer t xs room ≡ g → (r : ℕ) × (after : List ℕ) × MatchCall t xs room r after
-    go (given r after) e = (
-      r,
-      after,
-      record {
-        κs = ([], ([], ([], tt)));
-        lent = (ref t, (ref xs, (ref room, tt)));
-        left = (ref t, (ref xs, (ref after, tt)));
-        bytes = refl;
-        list = refl;
-        roomThen = refl;
-        roomNow = refl;
-        allowed = sym e;
-      },
-    )
+match-lent Family.Integers t xs room r after e = record {
+  κs = ([], ([], ([], tt)));
+  lent = (ref t, (ref xs, (ref room, tt)));
+  left = (ref t, (ref xs, (ref after, tt)));
+  bytes = refl;
+  list = refl;
+  roomThen = refl;
+  roomNow = refl;
+  allowed = sym e;
+}
+match-lent Family.Floats t xs room r after e = record {
+  κs = ([], ([], ([], tt)));
+  lent = (ref t, (ref xs, (ref room, tt)));
+  left = (ref t, (ref xs, (ref after, tt)));
+  bytes = refl;
+  list = refl;
+  roomThen = refl;
+  roomNow = refl;
+  allowed = sym e;
+}
 
-pub judge-called : (t : List ℕ) (xs : List ℤ) (w : List ℕ) → (r : ℕ) × JudgeCall t xs w r
+pub match-called : (fam : Family) (t : List ℕ) (xs : List (ElementOf fam)) (room : List ℕ) → (r : ℕ) × (after : List ℕ) × MatchCall fam t xs room r after
+match-called fam t xs room = go (matchAnswer fam t xs room) refl
+  where
+    go : (g : Given) → matchAnswer fam t xs room ≡ g → (r : ℕ) × (after : List ℕ) × MatchCall fam t xs room r after
+    go (given r after) e = (r, after, match-lent fam t xs room r after e)
+
+judge-lent : (fam : Family) (t : List ℕ) (xs : List (ElementOf fam)) (w : List ℕ) → JudgeCall fam t xs w (judgeAnswer fam t xs w)
 unfolding ref
-judge-called t xs w = (
-  judgeAnswer t xs w,
-  record {
-    κs = ([], ([], ([], tt)));
-    lent = (ref t, (ref xs, (ref w, tt)));
-    left = (ref t, (ref xs, (ref w, tt)));
-    bytes = refl;
-    list = refl;
-    offered = refl;
-    allowed = refl;
-  },
-)
+judge-lent Family.Integers t xs w = record {
+  κs = ([], ([], ([], tt)));
+  lent = (ref t, (ref xs, (ref w, tt)));
+  left = (ref t, (ref xs, (ref w, tt)));
+  bytes = refl;
+  list = refl;
+  offered = refl;
+  allowed = refl;
+}
+judge-lent Family.Floats t xs w = record {
+  κs = ([], ([], ([], tt)));
+  lent = (ref t, (ref xs, (ref w, tt)));
+  left = (ref t, (ref xs, (ref w, tt)));
+  bytes = refl;
+  list = refl;
+  offered = refl;
+  allowed = refl;
+}
+
+pub judge-called : (fam : Family) (t : List ℕ) (xs : List (ElementOf fam)) (w : List ℕ) → (r : ℕ) × JudgeCall fam t xs w r
+judge-called fam t xs w = (judgeAnswer fam t xs w, judge-lent fam t xs w)
 
 pub normal-called : (t room : List ℕ) → (n : ℕ) × (l : ℕ) × (after : List ℕ) × NormalCall t room n l after
 unfolding ref

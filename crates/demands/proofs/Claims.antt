@@ -8,14 +8,15 @@ use Prim.Native.Nat.{ℕ, _≤_, _<_}
 use native.Mathlib.Omega.{arith}
 use lib.ListN.{length, take, drop}
 use lib.Seq.{take-at}
-use lib.IntN.{ℤ}
 use Rattle.integers.specs.Integer.{signed, intAt, intBytes}
 use Rattle.facts.specs.Counting.{between, cnt}
 use Rattle.facts.proofs.Cases.{by-test}
+use Rattle.format.specs.declared.Family.{Family}
 use Rattle.byte_order.specs.ByteOrder.{First as FirstOf}
 use Rattle.blocks.specs.Assignment.{allOnce}
 use Rattle.grammar.specs.Element.{Elem}
 use Rattle.grammar.specs.Leaf.{Leaf, singleHead, rangeHead, leafHead}
+use Rattle.grammar.specs.Family.{LeafOf, leavesOf, ElementOf, RowOf}
 use Rattle.grammar.specs.Template.{Template, membersOfGroup, membersOfItem, membersOfItems, membersOf}
 use Rattle.grammar.specs.Record.{countFault, boundsFault, groupHead, head}
 use Rattle.grammar.specs.Read.{Read, refuse, got, ended, mapRead}
@@ -41,7 +42,7 @@ use Rattle.demands.specs.Calls.{MatchCall, JudgeCall, NormalCall}
 use Rattle.demands.specs.Claims.{Accepts, Refused, RefusedAlone, Kept, ListRows, MatchGiven, JudgeGiven, NormalGiven, MatchedExactly, JudgedExactly, FormCall, FormOf, MaximalRanges, First, Second, Third, EveryInput, JudgeAgrees, SomeIsMatched, AsJudged}
 use Rattle.demands.proofs.Calls.{match-answer, judge-answer, normal-answer, match-called, judge-called, normal-called}
 use Rattle.demands.proofs.NormalForms.{side-of, accepted-side, widest-of, length-normalForm, form-placed, same-integers-same-form, same-form-same-integers, form-of-form, one-element}
-use Rattle.demands.proofs.Outcomes.{ListOutcome, tooLong, tooMany, unfit, rejected, decided, MatchOutcome, left, wrote, match-outcome, judge-outcome, NormalOutcome, declined, roomShort, formed, normal-outcome}
+use Rattle.demands.proofs.Outcomes.{ListOutcome, tooLong, tooMany, unfit, rejected, decided, MatchOutcome, left, wrote, row-apart, match-outcome, judge-outcome, NormalOutcome, declined, roomShort, formed, normal-outcome}
 
 -- ---- demand 1: the rows of the table that matcher and judge share
 
@@ -51,8 +52,8 @@ number-same o n m p q = cc
 not-both : {A : Type 0} (o : Read A) (n : ℕ) (a : A) → o ≡ refuse n → o ≡ got a [] → ⊥
 not-both o n a p q = let z : _≡_ {A = ℕ} 0 1 = cc in omega arith
 
-module _ (t : List ℕ) (xs : List ℤ) (Fit : Type 0) (k r : ℕ) (high : 12 ≤ k) where
-  list-rows : ListOutcome t xs Fit k r → ListRows t xs Fit r
+module _ (fam : Family) (t : List ℕ) (xs : List (ElementOf fam)) (Fit : Type 0) (k r : ℕ) (least : 12 ≤ k) (most : k ≤ 13) where
+  list-rows : ListOutcome fam t xs Fit k r → ListRows fam t xs Fit r
   list-rows (tooLong a z) = record {
     two = (λ _. a, λ _. z);
     eleven = (λ e. absurd (omega arith), λ b. absurd (omega arith));
@@ -62,63 +63,63 @@ module _ (t : List ℕ) (xs : List ℤ) (Fit : Type 0) (k r : ℕ) (high : 12 �
   list-rows (tooMany a b z) = record {
     two = (λ e. absurd (omega arith), λ c. absurd (omega arith));
     eleven = (λ _. (a, b), λ _. z);
-    refused = λ n p q. (λ e. absurd (omega arith), λ c. absurd (omega arith));
+    refused = λ n p q. (λ e. absurd (row-apart fam n p (omega arith) (omega arith)), λ c. absurd (omega arith));
     answered = (λ e. absurd (omega arith), λ c. absurd (omega arith));
   }
   list-rows (unfit taken f z) = record {
     two = (λ e. absurd (omega arith), λ c. absurd (omega arith));
     eleven = (λ e. absurd (omega arith), λ c. absurd (omega arith));
-    refused = λ n p q. (λ e. absurd (omega arith), λ c. absurd (f (c .1)));
+    refused = λ n p q. (λ e. absurd (row-apart fam n p (omega arith) (omega arith)), λ c. absurd (f (c .1)));
     answered = (λ e. absurd (omega arith), λ c. absurd (f (c .1)));
   }
-  list-rows (rejected taken f m refusal low most z) = record {
+  list-rows (rejected taken f m refusal row above z) = record {
     two = (λ e. absurd (omega arith), λ c. absurd (omega arith));
-    eleven = (λ e. absurd (omega arith), λ c. absurd (omega arith));
+    eleven = (λ e. absurd (row-apart fam m row (omega arith) (omega arith)), λ c. absurd (omega arith));
     refused = λ n p q. (
-      λ e. (taken, f, subst (Refused t) (sym z ∙ e) refusal),
-      λ c. z ∙ number-same (readTemplate leafHead t) m n refusal (c .2),
+      λ e. (taken, f, subst (Refused fam t) (sym z ∙ e) refusal),
+      λ c. z ∙ number-same (readTemplate (leavesOf fam) t) m n refusal (c .2),
     );
-    answered = (λ e. absurd (omega arith), λ c. absurd (not-both (readTemplate leafHead t) m (c .2 .0) refusal (c .2 .1)));
+    answered = (λ e. absurd (omega arith), λ c. absurd (not-both (readTemplate (leavesOf fam) t) m (c .2 .0) refusal (c .2 .1)));
   }
-  list-rows (decided taken f s accepted low) = record {
+  list-rows (decided taken f s accepted small) = record {
     two = (λ e. absurd (omega arith), λ c. absurd (omega arith));
     eleven = (λ e. absurd (omega arith), λ c. absurd (omega arith));
-    refused = λ n p q. (λ e. absurd (omega arith), λ c. absurd (not-both (readTemplate leafHead t) n s (c .2) accepted));
-    answered = (λ _. (taken, f, (s, accepted)), λ _. low);
+    refused = λ n p q. (λ e. absurd (omega arith), λ c. absurd (not-both (readTemplate (leavesOf fam) t) n s (c .2) accepted));
+    answered = (λ _. (taken, f, (s, accepted)), λ _. small);
   }
 
 -- the number of the row between 11 and the scan
-module _ (t : List ℕ) (xs : List ℤ) (Fit : Type 0) (k r : ℕ) (high : 12 ≤ k) where
-  between-row : ListOutcome t xs Fit k r → (r ≡ k → Taken t xs × (Fit → ⊥)) × (Taken t xs → (Fit → ⊥) → r ≡ k)
+module _ (fam : Family) (t : List ℕ) (xs : List (ElementOf fam)) (Fit : Type 0) (k r : ℕ) (least : 12 ≤ k) (most : k ≤ 13) where
+  between-row : ListOutcome fam t xs Fit k r → (r ≡ k → Taken t xs × (Fit → ⊥)) × (Taken t xs → (Fit → ⊥) → r ≡ k)
   between-row (tooLong a z) = (λ e. absurd (omega arith), λ c f. absurd (omega arith))
   between-row (tooMany a b z) = (λ e. absurd (omega arith), λ c f. absurd (omega arith))
   between-row (unfit taken f z) = (λ _. (taken, f), λ _ _. z)
-  between-row (rejected taken f m refusal low most z) = (λ e. absurd (omega arith), λ c g. absurd (g f))
-  between-row (decided taken f s accepted low) = (λ e. absurd (omega arith), λ c g. absurd (g f))
+  between-row (rejected taken f m refusal row above z) = (λ e. absurd (row-apart fam m row (omega arith) (omega arith)), λ c g. absurd (g f))
+  between-row (decided taken f s accepted small) = (λ e. absurd (omega arith), λ c g. absurd (g f))
 
-  list-numbers : ListOutcome t xs Fit k r → (r ≤ k) × ((r ≡ k → ⊥) → r ≤ 11)
-  list-numbers (tooLong a z) = (omega arith, λ _. omega arith)
-  list-numbers (tooMany a b z) = (omega arith, λ _. omega arith)
-  list-numbers (unfit taken f z) = (omega arith, λ n. absurd (n z))
-  list-numbers (rejected taken f m refusal low most z) = (omega arith, λ _. omega arith)
-  list-numbers (decided taken f s accepted low) = (omega arith, λ _. omega arith)
+  list-numbers : ListOutcome fam t xs Fit k r → (r ≡ k) ⊎ ((r ≤ 11) ⊎ RowOf fam r)
+  list-numbers (tooLong a z) = inr (inl (omega arith))
+  list-numbers (tooMany a b z) = inr (inl (omega arith))
+  list-numbers (unfit taken f z) = inl z
+  list-numbers (rejected taken f m refusal row above z) = inr (inr (subst (RowOf fam) (sym z) row))
+  list-numbers (decided taken f s accepted small) = inr (inl (omega arith))
 
 -- ---- demand 1: the entry points
 
-module _ (t : List ℕ) (xs : List ℤ) (room : List ℕ) (r : ℕ) (after : List ℕ) where
-  list-outcome : MatchOutcome t xs room r after → ListOutcome t xs (length xs ≤ length room) 12 r
+module _ (fam : Family) (t : List ℕ) (xs : List (ElementOf fam)) (room : List ℕ) (r : ℕ) (after : List ℕ) where
+  list-outcome : MatchOutcome fam t xs room r after → ListOutcome fam t xs (length xs ≤ length room) 12 r
   list-outcome (left e p o) = o
   list-outcome (wrote k l s q w z e a) = decided k l s q (omega arith)
 
-  match-given : MatchCall t xs room r after → MatchGiven t xs room r after
+  match-given : MatchCall fam t xs room r after → MatchGiven fam t xs room r after
   match-given c =
-      let o = match-outcome t xs room r after (match-answer t xs room r after c) in
+      let o = match-outcome fam t xs room r after (match-answer fam t xs room r after c) in
       let u = list-outcome o in
-      let b = between-row t xs (length xs ≤ length room) 12 r (omega arith) u in
+      let b = between-row fam t xs (length xs ≤ length room) 12 r (omega arith) (omega arith) u in
       record {
-        rows = list-rows t xs (length xs ≤ length room) 12 r (omega arith) u;
+        rows = list-rows fam t xs (length xs ≤ length room) 12 r (omega arith) (omega arith) u;
         twelve = (λ e. (b .0 e .0, short (b .0 e .1)), λ p. b .1 (p .0) (λ l. long (p .1) l));
-        numbers = list-numbers t xs (length xs ≤ length room) 12 r (omega arith) u .0;
+        numbers = up-to-twelve (list-numbers fam t xs (length xs ≤ length room) 12 r (omega arith) (omega arith) u);
         written = λ z. kept z o;
         untouched = λ n. same n o;
       }
@@ -129,28 +130,40 @@ module _ (t : List ℕ) (xs : List ℤ) (room : List ℕ) (r : ℕ) (after : Lis
       long : length room < length xs → length xs ≤ length room → ⊥
       long p l = omega arith
 
-      kept : r ≡ 0 → MatchOutcome t xs room r after → Kept room after (length xs)
+      up-to-twelve : (r ≡ 12) ⊎ ((r ≤ 11) ⊎ RowOf fam r) → (r ≤ 12) ⊎ RowOf fam r
+      up-to-twelve (inl z) = inl (omega arith)
+      up-to-twelve (inr (inl z)) = inl (omega arith)
+      up-to-twelve (inr (inr row)) = inr row
+
+      kept : r ≡ 0 → MatchOutcome fam t xs room r after → Kept room after (length xs)
       kept z (left e p o) = absurd (omega arith)
       kept z (wrote k l s q w size e a) = record { bytes = w; count = size; rest = a }
 
-      same : (r ≡ 0 → ⊥) → MatchOutcome t xs room r after → after ≡ room
+      same : (r ≡ 0 → ⊥) → MatchOutcome fam t xs room r after → after ≡ room
       same n (left e p o) = e
       same n (wrote k l s q w size e a) = absurd (n e)
 
-module _ (t : List ℕ) (xs : List ℤ) (w : List ℕ) (r : ℕ) where
-  judge-given : JudgeCall t xs w r → JudgeGiven t xs w r
+module _ (fam : Family) (t : List ℕ) (xs : List (ElementOf fam)) (w : List ℕ) (r : ℕ) where
+  judge-given : JudgeCall fam t xs w r → JudgeGiven fam t xs w r
   judge-given c =
-      let u = judge-outcome t xs w r (judge-answer t xs w r c) in
-      let b = between-row t xs (length w ≡ length xs) 13 r (omega arith) u in
-      let n = list-numbers t xs (length w ≡ length xs) 13 r (omega arith) u in
+      let u = judge-outcome fam t xs w r (judge-answer fam t xs w r c) in
+      let b = between-row fam t xs (length w ≡ length xs) 13 r (omega arith) (omega arith) u in
+      let n = list-numbers fam t xs (length w ≡ length xs) 13 r (omega arith) (omega arith) u in
       record {
-        rows = list-rows t xs (length w ≡ length xs) 13 r (omega arith) u;
+        rows = list-rows fam t xs (length w ≡ length xs) 13 r (omega arith) (omega arith) u;
         thirteen = (b .0, λ p. b .1 (p .0) (p .1));
-        numbers = (n .0, λ e. never e (n .1));
+        numbers = (up-to-thirteen n, λ e. never e n);
       }
     where
-      never : r ≡ 12 → ((r ≡ 13 → ⊥) → r ≤ 11) → ⊥
-      never e h = let q = h (λ f. omega arith) in omega arith
+      up-to-thirteen : (r ≡ 13) ⊎ ((r ≤ 11) ⊎ RowOf fam r) → (r ≤ 13) ⊎ RowOf fam r
+      up-to-thirteen (inl z) = inl (omega arith)
+      up-to-thirteen (inr (inl z)) = inl (omega arith)
+      up-to-thirteen (inr (inr row)) = inr row
+
+      never : r ≡ 12 → (r ≡ 13) ⊎ ((r ≤ 11) ⊎ RowOf fam r) → ⊥
+      never e (inl z) = omega arith
+      never e (inr (inl z)) = omega arith
+      never e (inr (inr row)) = row-apart fam r row (omega arith) (omega arith)
 
 module _ (t room : List ℕ) (n l : ℕ) (after : List ℕ) where
   given-of : NormalOutcome t room n l after → NormalGiven t room n l after
@@ -197,52 +210,52 @@ first = record {
   matcher = match-given;
   judge = judge-given;
   normaliser = normal-given;
-  templates = λ t. either (readTemplate leafHead t) (read-cases t);
-  templateRows = λ t n q. let row = template-row t n q in (row .least, row .most);
+  templates = λ fam t. either (readTemplate (leavesOf fam) t) (read-cases fam t);
+  templateRows = λ fam t n q. template-row fam t n q .row;
   elements = λ t. either (readElement leafHead t) (element-cases t);
-  elementRows = λ t n q. let row = element-row t n q in (row .least, row .most, element-not-nine t n q);
+  elementRows = λ t n q. let row = element-row t n q .row in (row .0, row .1, element-not-nine t n q);
 }
 
 -- ---- demand 2
 
-module _ (t : List ℕ) (xs : List ℤ) (s : Template Leaf) (room : List ℕ) (r : ℕ) (after : List ℕ) (c : MatchCall t xs room r after) (k : Taken t xs) (l : length xs ≤ length room) (q : Accepts t s) where
-  answer-is : matchAnswer t xs room ≡ given r after
-  answer-is = match-answer t xs room r after c
+module _ (fam : Family) (t : List ℕ) (xs : List (ElementOf fam)) (s : Template (LeafOf fam)) (room : List ℕ) (r : ℕ) (after : List ℕ) (c : MatchCall fam t xs room r after) (k : Taken t xs) (l : length xs ≤ length room) (q : Accepts fam t s) where
+  answer-is : matchAnswer fam t xs room ≡ given r after
+  answer-is = match-answer fam t xs room r after c
 
   -- where some assignment obeys, the first stands in the room
-  first-there : (v : List ℕ) → Obeys s xs v → (r ≡ 0) × FirstOf (Obeys s xs) (take (length xs) after)
+  first-there : (v : List ℕ) → Obeys fam s xs v → (r ≡ 0) × FirstOf (Obeys fam s xs) (take (length xs) after)
   first-there v o =
-      let m = matched-where t xs room s k l q v o in
+      let m = matched-where fam t xs room s k l q v o in
       let e : given r after ≡ given 0 (m .witness ++ drop (length xs) room) = sym answer-is ∙ m .answer in
       let same : after ≡ m .witness ++ drop (length xs) room = cc in
-      (cc, subst (FirstOf (Obeys s xs)) (sym (ap (take (length xs)) same ∙ take-at (m .witness) (drop (length xs) room) (length xs) (m .size))) (m .first))
+      (cc, subst (FirstOf (Obeys fam s xs)) (sym (ap (take (length xs)) same ∙ take-at (m .witness) (drop (length xs) room) (length xs) (m .size))) (m .first))
 
-  none-there : ((v : List ℕ) → Obeys s xs v → ⊥) → r ≡ 1
-  none-there n = let e : given r after ≡ given 1 room = sym answer-is ∙ unmatched-where t xs room s k l q n in cc
+  none-there : ((v : List ℕ) → Obeys fam s xs v → ⊥) → r ≡ 1
+  none-there n = let e : given r after ≡ given 1 room = sym answer-is ∙ unmatched-where fam t xs room s k l q n in cc
 
-  matched-exactly : MatchedExactly xs s r after
-  matched-exactly = go (firstWitness s xs) refl
+  matched-exactly : MatchedExactly fam xs s r after
+  matched-exactly = go (firstWitness fam s xs) refl
     where
-      go : (m : Maybe) → firstWitness s xs ≡ m → MatchedExactly xs s r after
+      go : (m : Maybe) → firstWitness fam s xs ≡ m → MatchedExactly fam xs s r after
       go nothing e =
-          let none = none-witness s xs e in
+          let none = none-witness fam s xs e in
           let one = none-there none in
           record { matched = (λ z. absurd (omega arith), λ p. absurd (none (p .0) (p .1))); unmatched = (λ _. none, λ _. one); first = λ z. absurd (omega arith) }
       go (just w) e =
-          let o : Obeys s xs w = first-witness s xs w (few-members t s q) e .holds in
+          let o : Obeys fam s xs w = first-witness fam s xs w (few-members fam t s q) e .holds in
           let there = first-there w o in
           let zero : r ≡ 0 = there .0 in
           record { matched = (λ _. (w, o), λ _. zero); unmatched = (λ z. absurd (omega arith), λ n. absurd (n w o)); first = λ _. there .1 }
 
-module _ (t : List ℕ) (xs : List ℤ) (s : Template Leaf) (w : List ℕ) (r : ℕ) (c : JudgeCall t xs w r) (k : Taken t xs) (l : length w ≡ length xs) (q : Accepts t s) where
-  judged-exactly : JudgedExactly xs s w r
+module _ (fam : Family) (t : List ℕ) (xs : List (ElementOf fam)) (s : Template (LeafOf fam)) (w : List ℕ) (r : ℕ) (c : JudgeCall fam t xs w r) (k : Taken t xs) (l : length w ≡ length xs) (q : Accepts fam t s) where
+  judged-exactly : JudgedExactly fam xs s w r
   judged-exactly =
-      let a = judge-answer t xs w r c in
-      let j = judged-where t xs w s k l q in
-      let passes : Obeys s xs w → r ≡ 0 = λ o. sym a ∙ j .0 o in
+      let a = judge-answer fam t xs w r c in
+      let j = judged-where fam t xs w s k l q in
+      let passes : Obeys fam s xs w → r ≡ 0 = λ o. sym a ∙ j .0 o in
       record {
         passed = (λ z. j .1 (a ∙ z), passes);
-        failed = (λ z o. one-zero z (passes o), λ n. by-test (obeys s xs w) (λ o. absurd (n o)) (λ o. sym a ∙ j .2 o));
+        failed = (λ z o. one-zero z (passes o), λ n. by-test (obeys fam s xs w) (λ o. absurd (n o)) (λ o. sym a ∙ j .2 o));
       }
     where
       one-zero : r ≡ 1 → r ≡ 0 → ⊥
@@ -324,18 +337,18 @@ pub everyInput : EveryInput
 everyInput = (match-called, judge-called, normal-called)
 
 pub judgeAgrees : JudgeAgrees
-judgeAgrees t xs room after r c j =
-    let a = match-given t xs room 0 after c .rows .answered .0 (omega arith) in
+judgeAgrees fam t xs room after r c j =
+    let a = match-given fam t xs room 0 after c .rows .answered .0 (omega arith) in
     let s = a .2 .0 in
-    let o : Obeys s xs (take (length xs) after) = matched-exactly t xs s room 0 after c (a .0) (a .1) (a .2 .1) .first refl .holds in
-    judged-exactly t xs s (take (length xs) after) r j (a .0) (obeys-size s xs (take (length xs) after) o) (a .2 .1) .passed .1 o
+    let o : Obeys fam s xs (take (length xs) after) = matched-exactly fam t xs s room 0 after c (a .0) (a .1) (a .2 .1) .first refl .holds in
+    judged-exactly fam t xs s (take (length xs) after) r j (a .0) (obeys-size fam s xs (take (length xs) after) o) (a .2 .1) .passed .1 o
 
 pub someIsMatched : SomeIsMatched
-someIsMatched t xs w room after r j l c =
-    let a = judge-given t xs w 0 j .rows .answered .0 (omega arith) in
+someIsMatched fam t xs w room after r j l c =
+    let a = judge-given fam t xs w 0 j .rows .answered .0 (omega arith) in
     let s = a .2 .0 in
-    let o : Obeys s xs w = judged-exactly t xs s w 0 j (a .0) (a .1) (a .2 .1) .passed .0 refl in
-    matched-exactly t xs s room r after c (a .0) l (a .2 .1) .matched .1 (w, o)
+    let o : Obeys fam s xs w = judged-exactly fam t xs s w 0 j (a .0) (a .1) (a .2 .1) .passed .0 refl in
+    matched-exactly fam t xs s room r after c (a .0) l (a .2 .1) .matched .1 (w, o)
 
 -- ---- the table
 

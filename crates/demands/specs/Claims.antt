@@ -1,17 +1,18 @@
 -- The three demands of the request, as claims, over calls of the entry points; the judged examples as a fourth; and that matcher and judge
--- agree. Every "exactly" of a demand stands in both directions.
+-- agree. Every "exactly" of a demand stands in both directions. Demands 1 and 2 are stated once, for every family f of templates and lists; the
+-- normaliser, and with it demand 3, is about integers only.
 -- Exactly A B <-> A where B, and only there
--- Accepts t s, Refused t n <-> the bytes t are accepted as a template, and that is s; they are refused by the number n
--- RefusedAlone t n <-> the bytes t are refused by the number n as one element template by itself
+-- Accepts f t s, Refused f t n <-> the bytes t are accepted as a template of the family f, and that is s; they are refused by the number n
+-- RefusedAlone t n <-> the bytes t are refused by the number n as one element template of integers by itself
 -- Kept room after n <-> the first n bytes of the room were written, and no other byte changed
--- ListRows t xs Fit r <-> the rows of the table that matcher and judge share, for the number r: each is given exactly where it holds and none before it
+-- ListRows f t xs Fit r <-> the rows of the table that matcher and judge share, for the number r: each is given exactly where it holds and none before it
 --             does; Fit says that the row between 11 and the scan does not hold
--- MatchGiven t xs room r after <-> what demand 1 asks of the matcher's number r and of the room afterwards
--- JudgeGiven t xs w r <-> what demand 1 asks of the judge's number r
+-- MatchGiven f t xs room r after <-> what demand 1 asks of the matcher's number r and of the room afterwards
+-- JudgeGiven f t xs w r <-> what demand 1 asks of the judge's number r
 -- NormalGiven t room n l after <-> what demand 1 asks of the normaliser's number n, length l and of the room afterwards
 -- Demand1 <-> of every call: a number exactly where the table and its order call for it, and only the bytes named change; bytes are accepted or
 --             refused, and by which numbers. That there is one answer only is said by the uniqueness laws of the entry points
--- MatchedExactly xs s r after, JudgedExactly xs s w r <-> what demand 2 asks of the matcher and of the judge, for the template s
+-- MatchedExactly f xs s r after, JudgedExactly f xs s w r <-> what demand 2 asks of the matcher and of the judge, for the template s
 -- Demand2 <-> refusals apart, a match is given exactly when some assignment obeys, and then the first in byte order stands in the room; the judge
 --             passes exactly what obeys, whoever made it
 -- FormCall t e n l f <-> a call of the normaliser for the bytes t of the element template e, with 578 bytes of room, which gives the number n and
@@ -36,10 +37,12 @@ use Prim.Native.Nat.{ℕ, _≤_, _<_}
 use lib.ListN.{length, take, drop}
 use lib.IntN.{ℤ, pos, _+ℤ_, _-ℤ_}
 use lib.Signed.{ltZ}
+use Rattle.format.specs.declared.Family.{Family}
 use Rattle.byte_order.specs.ByteOrder.{First as FirstOf}
 use Rattle.integers.specs.Integer.{Word}
 use Rattle.grammar.specs.Element.{Elem, leaves}
 use Rattle.grammar.specs.Leaf.{Leaf, leafHead}
+use Rattle.grammar.specs.Family.{LeafOf, leavesOf, ElementOf, RowOf}
 use Rattle.grammar.specs.Template.{Template}
 use Rattle.grammar.specs.Read.{refuse, got}
 use Rattle.grammar.specs.Reading.{readElement}
@@ -57,11 +60,11 @@ use Rattle.demands.specs.Judged.{allComeOut, judged}
 abbrev pub Exactly : (A B : Type 0) → Type 0
 Exactly A B = (A → B) × (B → A)
 
-abbrev pub Accepts : List ℕ → Template Leaf → Type 0
-Accepts t s = readTemplate leafHead t ≡ got s []
+abbrev pub Accepts : (f : Family) → List ℕ → Template (LeafOf f) → Type 0
+Accepts f t s = readTemplate (leavesOf f) t ≡ got s []
 
-abbrev pub Refused : List ℕ → ℕ → Type 0
-Refused t n = readTemplate leafHead t ≡ refuse n
+abbrev pub Refused : Family → List ℕ → ℕ → Type 0
+Refused f t n = readTemplate (leavesOf f) t ≡ refuse n
 
 abbrev pub RefusedAlone : List ℕ → ℕ → Type 0
 RefusedAlone t n = readElement leafHead t ≡ refuse n
@@ -74,24 +77,24 @@ pub record Kept (room after : List ℕ) (n : ℕ) : Type 0 where
 -- ---- demand 1
 
 -- "2, 11, 12 or 13, then a scan from the front; the first record at fault decides .. Then 10"; then 0 or 1
-pub record ListRows (t : List ℕ) (xs : List ℤ) (Fit : Type 0) (r : ℕ) : Type 0 where
+pub record ListRows (f : Family) (t : List ℕ) (xs : List (ElementOf f)) (Fit : Type 0) (r : ℕ) : Type 0 where
   pub two : Exactly (r ≡ 2) (4096 < length t)
   pub eleven : Exactly (r ≡ 11) ((length t ≤ 4096) × (32 < length xs))
-  pub refused : (n : ℕ) → 3 ≤ n → n ≤ 10 → Exactly (r ≡ n) (Taken t xs × Fit × Refused t n)
-  pub answered : Exactly (r ≤ 1) (Taken t xs × Fit × ((s : Template Leaf) × Accepts t s))
+  pub refused : (n : ℕ) → RowOf f n → 2 < n → Exactly (r ≡ n) (Taken t xs × Fit × Refused f t n)
+  pub answered : Exactly (r ≤ 1) (Taken t xs × Fit × ((s : Template (LeafOf f)) × Accepts f t s))
 
--- "The judge never gives 12, the matcher never 13"
-pub record MatchGiven (t : List ℕ) (xs : List ℤ) (room : List ℕ) (r : ℕ) (after : List ℕ) : Type 0 where
-  pub rows : ListRows t xs (length xs ≤ length room) r
+-- "The judge never gives 12, the matcher never 13". A template of floats may have a row above these.
+pub record MatchGiven (f : Family) (t : List ℕ) (xs : List (ElementOf f)) (room : List ℕ) (r : ℕ) (after : List ℕ) : Type 0 where
+  pub rows : ListRows f t xs (length xs ≤ length room) r
   pub twelve : Exactly (r ≡ 12) (Taken t xs × (length room < length xs))
-  pub numbers : r ≤ 12
+  pub numbers : (r ≤ 12) ⊎ RowOf f r
   pub written : r ≡ 0 → Kept room after (length xs)
   pub untouched : (r ≡ 0 → ⊥) → after ≡ room
 
-pub record JudgeGiven (t : List ℕ) (xs : List ℤ) (w : List ℕ) (r : ℕ) : Type 0 where
-  pub rows : ListRows t xs (length w ≡ length xs) r
+pub record JudgeGiven (f : Family) (t : List ℕ) (xs : List (ElementOf f)) (w : List ℕ) (r : ℕ) : Type 0 where
+  pub rows : ListRows f t xs (length w ≡ length xs) r
   pub thirteen : Exactly (r ≡ 13) (Taken t xs × (length w ≡ length xs → ⊥))
-  pub numbers : (r ≤ 13) × (r ≡ 12 → ⊥)
+  pub numbers : ((r ≤ 13) ⊎ RowOf f r) × (r ≡ 12 → ⊥)
 
 -- "never gives 1, 9, 11 or 13; its 12 comes last, after 10"
 pub record NormalGiven (t room : List ℕ) (n l : ℕ) (after : List ℕ) : Type 0 where
@@ -103,31 +106,31 @@ pub record NormalGiven (t room : List ℕ) (n l : ℕ) (after : List ℕ) : Type
   pub untouched : (n ≡ 0 → ⊥) → (l ≡ 0) × (after ≡ room)
 
 pub record Demand1 : Type 0 where
-  pub matcher : (t : List ℕ) (xs : List ℤ) (room : List ℕ) (r : ℕ) (after : List ℕ) → MatchCall t xs room r after → MatchGiven t xs room r after
-  pub judge : (t : List ℕ) (xs : List ℤ) (w : List ℕ) (r : ℕ) → JudgeCall t xs w r → JudgeGiven t xs w r
+  pub matcher : (f : Family) (t : List ℕ) (xs : List (ElementOf f)) (room : List ℕ) (r : ℕ) (after : List ℕ) → MatchCall f t xs room r after → MatchGiven f t xs room r after
+  pub judge : (f : Family) (t : List ℕ) (xs : List (ElementOf f)) (w : List ℕ) (r : ℕ) → JudgeCall f t xs w r → JudgeGiven f t xs w r
   pub normaliser : (t room : List ℕ) (n l : ℕ) (after : List ℕ) → NormalCall t room n l after → NormalGiven t room n l after
-  pub templates : (t : List ℕ) → ((s : Template Leaf) × Accepts t s) ⊎ ((n : ℕ) × Refused t n)
-  pub templateRows : (t : List ℕ) (n : ℕ) → Refused t n → (2 ≤ n) × (n ≤ 10)
+  pub templates : (f : Family) (t : List ℕ) → ((s : Template (LeafOf f)) × Accepts f t s) ⊎ ((n : ℕ) × Refused f t n)
+  pub templateRows : (f : Family) (t : List ℕ) (n : ℕ) → Refused f t n → RowOf f n
   pub elements : (t : List ℕ) → ((e : Elem Leaf) × Accepted t e) ⊎ ((n : ℕ) × RefusedAlone t n)
   pub elementRows : (t : List ℕ) (n : ℕ) → RefusedAlone t n → (2 ≤ n) × (n ≤ 10) × (n ≡ 9 → ⊥)
 
 -- ---- demand 2
 
-module _ (xs : List ℤ) (s : Template Leaf) where
+module _ (f : Family) (xs : List (ElementOf f)) (s : Template (LeafOf f)) where
   pub record MatchedExactly (r : ℕ) (after : List ℕ) : Type 0 where
-    pub matched : Exactly (r ≡ 0) ((v : List ℕ) × Obeys s xs v)
-    pub unmatched : Exactly (r ≡ 1) ((v : List ℕ) → Obeys s xs v → ⊥)
-    pub first : r ≡ 0 → FirstOf (Obeys s xs) (take (length xs) after)
+    pub matched : Exactly (r ≡ 0) ((v : List ℕ) × Obeys f s xs v)
+    pub unmatched : Exactly (r ≡ 1) ((v : List ℕ) → Obeys f s xs v → ⊥)
+    pub first : r ≡ 0 → FirstOf (Obeys f s xs) (take (length xs) after)
 
   pub record JudgedExactly (w : List ℕ) (r : ℕ) : Type 0 where
-    pub passed : Exactly (r ≡ 0) (Obeys s xs w)
-    pub failed : Exactly (r ≡ 1) (Obeys s xs w → ⊥)
+    pub passed : Exactly (r ≡ 0) (Obeys f s xs w)
+    pub failed : Exactly (r ≡ 1) (Obeys f s xs w → ⊥)
 
 pub record Demand2 : Type 0 where
-  pub matcher : (t : List ℕ) (xs : List ℤ) (s : Template Leaf) (room : List ℕ) (r : ℕ) (after : List ℕ) → MatchCall t xs room r after
-      → Taken t xs → length xs ≤ length room → Accepts t s → MatchedExactly xs s r after
-  pub judge : (t : List ℕ) (xs : List ℤ) (s : Template Leaf) (w : List ℕ) (r : ℕ) → JudgeCall t xs w r
-      → Taken t xs → length w ≡ length xs → Accepts t s → JudgedExactly xs s w r
+  pub matcher : (f : Family) (t : List ℕ) (xs : List (ElementOf f)) (s : Template (LeafOf f)) (room : List ℕ) (r : ℕ) (after : List ℕ) → MatchCall f t xs room r after
+      → Taken t xs → length xs ≤ length room → Accepts f t s → MatchedExactly f xs s r after
+  pub judge : (f : Family) (t : List ℕ) (xs : List (ElementOf f)) (s : Template (LeafOf f)) (w : List ℕ) (r : ℕ) → JudgeCall f t xs w r
+      → Taken t xs → length w ≡ length xs → Accepts f t s → JudgedExactly f xs s w r
 
 -- ---- demand 3
 
@@ -176,15 +179,15 @@ Third = Demand3
 
 abbrev pub EveryInput : Type 0
 EveryInput =
-    ((t : List ℕ) (xs : List ℤ) (room : List ℕ) → (r : ℕ) × (after : List ℕ) × MatchCall t xs room r after)
-    × ((t : List ℕ) (xs : List ℤ) (w : List ℕ) → (r : ℕ) × JudgeCall t xs w r)
+    ((f : Family) (t : List ℕ) (xs : List (ElementOf f)) (room : List ℕ) → (r : ℕ) × (after : List ℕ) × MatchCall f t xs room r after)
+    × ((f : Family) (t : List ℕ) (xs : List (ElementOf f)) (w : List ℕ) → (r : ℕ) × JudgeCall f t xs w r)
     × ((t room : List ℕ) → (n : ℕ) × (l : ℕ) × (after : List ℕ) × NormalCall t room n l after)
 
 abbrev pub JudgeAgrees : Type 0
-JudgeAgrees = (t : List ℕ) (xs : List ℤ) (room after : List ℕ) (r : ℕ) → MatchCall t xs room 0 after → JudgeCall t xs (take (length xs) after) r → r ≡ 0
+JudgeAgrees = (f : Family) (t : List ℕ) (xs : List (ElementOf f)) (room after : List ℕ) (r : ℕ) → MatchCall f t xs room 0 after → JudgeCall f t xs (take (length xs) after) r → r ≡ 0
 
 abbrev pub SomeIsMatched : Type 0
-SomeIsMatched = (t : List ℕ) (xs : List ℤ) (w room after : List ℕ) (r : ℕ) → JudgeCall t xs w 0 → length xs ≤ length room → MatchCall t xs room r after → r ≡ 0
+SomeIsMatched = (f : Family) (t : List ℕ) (xs : List (ElementOf f)) (w room after : List ℕ) (r : ℕ) → JudgeCall f t xs w 0 → length xs ≤ length room → MatchCall f t xs room r after → r ≡ 0
 
 abbrev pub AsJudged : Type 0
 AsJudged = allComeOut judged ≡ true

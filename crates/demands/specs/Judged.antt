@@ -1,5 +1,5 @@
 -- The judged examples that are marked P in `examples/judged.txt`, as one table under one statement: list rows and normal-form rows alike.
--- Row         == what is given and what must come out: a template, a list, the number and the room afterwards; or an element template and
+-- Row         == what is given and what must come out: a template and a list of integers, the number and the room afterwards; or an element template and
 --                the bytes of its normal form
 -- sameBytes a b == the bytes a are the bytes b
 -- gives g n after == the answer g is the number n and the room `after`
@@ -14,6 +14,7 @@ use Prim.Native.Nat.{ℕ, suc, _-_}
 use lib.Dec.{eqb}
 use lib.ListN.{length, replicate}
 use lib.IntN.{ℤ, pos}
+use Rattle.format.specs.declared.Family.{Family}
 use Rattle.matching.specs.Answer.{Given, given, matchAnswer}
 use Rattle.forms.specs.Answer.{Answer, answer, normalised}
 
@@ -34,7 +35,7 @@ unfoldable pub forms : Answer → List ℕ → Bool
 forms (answer n l room) bytes = eqb n 0 && (eqb l (length bytes) && sameBytes room (bytes ++ replicate (600 - length bytes) 165))
 
 unfoldable pub comesOut : Row → Bool
-comesOut (onList t xs n after) = gives (matchAnswer t xs (replicate (suc (length xs)) 165)) n after
+comesOut (onList t xs n after) = gives (matchAnswer Family.Integers t xs (replicate (suc (length xs)) 165)) n after
 comesOut (ofForm t bytes) = forms (normalised t (replicate 600 165)) bytes
 
 unfoldable pub allComeOut : List Row → Bool

@@ -3,5 +3,5 @@
 -- Walks  == a leaf's test, and the walk over several members, turn by turn
 -- Unique == each promise allows one result only
 mod Asked
-mod Walks
+pub mod Walks
 pub mod Unique

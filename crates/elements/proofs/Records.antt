@@ -1,7 +1,7 @@
 -- One record at a place of the input: its faults, and its parts where it has none. Assumes nothing.
 use mathlib.Core.Path.{_≡_, refl, sym, ap, _∙_}
 use mathlib.Core.Bool.{Bool, true, false, _||_, cond, true≢false}
-use mathlib.Core.Logic.{_⊎_, inl, inr}
+use mathlib.Core.Logic.{_⊎_, inl, inr, ⊎-elim}
 use Rattle.facts.proofs.Cases.{by-test}
 use mathlib.Core.List.{List}
 use Prim.Native.Nat.{ℕ, zero, suc, _+_, _-_, _≤_, _<_}
@@ -27,7 +27,7 @@ fault-said t at h code r e q low small =
 
 -- ---- lists and complements
 
-fault-is : {L : Type 0} (r : ℕ) (h : Head L) → (r ≡ 0 → ⊥) → faultOr r h ≡ fault r
+pub fault-is : {L : Type 0} (r : ℕ) (h : Head L) → (r ≡ 0 → ⊥) → faultOr r h ≡ fault r
 fault-is zero h n = absurd (n refl)
 fault-is (suc r) h n = refl
 
@@ -72,6 +72,18 @@ leaf-kinds k h = (λ e. true≢false (ap groupKind (sym e) ∙ h), λ e. true≢
 
 pub head-as : {L : Type 0} (t : List ℕ) (at : ℕ) (h g : Head L) (r : ℕ) → h ≡ g → HeadAt t at g r → HeadAt t at h r
 head-as t at h g r e a = rw e a
+
+-- a record with members, and one without, from what is said of it as such
+module _ {L : Type 0} (leaves : List ℕ → Head L) (t : List ℕ) (at : ℕ) (some : at < length t) (r : ℕ) where
+  pub group-head : groupKind (getD t at 0) ≡ true → ((c : Bool) → groupKind (getD t at 0) ≡ true → HeadAt {L = L} t at (groupHead c (drop at t)) r) → HeadAt t at (head leaves (drop at t)) r
+  group-head k h =
+      ⊎-elim
+      (λ q. head-as t at _ _ r (head-list leaves t at some q) (h false k))
+      (λ q. head-as t at _ _ r (head-complement leaves t at some q) (h true k))
+      (group-kinds (getD t at 0) k)
+
+  pub leaf-head : groupKind (getD t at 0) ≡ false → HeadAt t at (leaves (drop at t)) r → HeadAt t at (head leaves (drop at t)) r
+  leaf-head k h = let n = leaf-kinds (getD t at 0) k in head-as t at _ _ r (head-leaf leaves t at some (n .0) (n .1)) h
 
 -- ---- leaves of the integer family
 

@@ -1,20 +1,20 @@
 -- A scan, step by step: what one record makes of an element template, and one element template of a row of them. Assumes nothing.
 use mathlib.Core.Path.{_≡_, refl, sym, ap, _∙_}
-use mathlib.Core.Bool.{Bool, true, false, cond}
+use mathlib.Core.Bool.{Bool, true, false}
 use mathlib.Core.List.{List}
 use mathlib.Core.Logic.{⊎-elim}
 use Prim.Native.Nat.{ℕ, zero, suc, _+_, _-_, _/_, _%_, _≤_, _<_}
 use native.Mathlib.Omega.{arith}
-use borrow.Author.Tests.{lt-ltb, le-ltb, ltb-true, ltb-false}
-use lib.Dec.{ltb}
+use borrow.Author.Tests.{lt-ltb, le-ltb}
 use lib.ListN.{length, getD, drop}
 use Rattle.grammar.specs.Element.{Elem, leaf, oneOf, noneOf, Elems, none, more}
-use Rattle.grammar.specs.Leaf.{Leaf, leafHead}
+use Rattle.format.specs.declared.Family.{Family}
+use Rattle.grammar.specs.Family.{LeafOf, leavesOf}
 use Rattle.grammar.specs.Record.{Head, fault, leafHere, group, head}
 use Rattle.grammar.specs.Read.{Read, refuse, got}
 use Rattle.grammar.specs.Reading.{Counted, counted, putFirst, thenMore, many, closed, tooDeep, opened, elem, outermost}
-use Rattle.elements.specs.Contract.{faultIn, placeIn, countIn, Place, From, groupKind, HeadAt, faulty, aLeaf, aGroup, Noted, stopped, noted, Ended, leavesTo, ScannedOne, ScannedAll, afterLeaf}
-use Rattle.facts.proofs.Cases.{by-test, below, clash}
+use Rattle.elements.specs.Contract.{faultIn, placeIn, countIn, Place, From, groupKind, HeadAt, faulty, aLeaf, aGroup, Noted, stopped, noted, Ended, leavesTo, ScannedOne, ScannedAll}
+use Rattle.facts.proofs.Cases.{below, clash}
 use Rattle.elements.proofs.Records.{head-none}
 
 -- ---- what any scan says
@@ -99,7 +99,7 @@ head-some leaves t at end short h sound =
     none e (aGroup c q k g i) = let x : _≡_ {A = ℕ} 0 1 = cc in omega arith
 
 -- a list or complement says what its members say
-closed-noted : (t : List ℕ) (c : Bool) (o : Read (Counted (Elems Leaf))) (k code next : ℕ) → Noted (λ (a : Counted (Elems Leaf)). leavesTo a ≡ k) t o code next → Noted (λ (a : Counted (Elem Leaf)). leavesTo a ≡ k) t (closed c o) code next
+closed-noted : {L : Type 0} (t : List ℕ) (c : Bool) (o : Read (Counted (Elems L))) (k code next : ℕ) → Noted (λ (a : Counted (Elems L)). leavesTo a ≡ k) t o code next → Noted (λ (a : Counted (Elem L)). leavesTo a ≡ k) t (closed c o) code next
 unfolding closed leavesTo
 closed-noted t c o k code next (stopped q p s) = stopped (ap (closed c) q) p s
 closed-noted t false o k code next (noted (counted es j) q z e i) = noted (counted (oneOf es) j) (ap (closed false) q) z e i
@@ -107,119 +107,127 @@ closed-noted t true o k code next (noted (counted es j) q z e i) = noted (counte
 
 -- ---- one element template after the place and the leaves `from`
 
-module _ (t : List ℕ) (left from end : ℕ) (start : From t from) where
-  pub one-fault : HeadAt t (placeIn from) (head leafHead (drop (placeIn from) t)) end → 16777215 < end → ScannedOne t left from end
+module _ (fam : Family) (t : List ℕ) (left from end : ℕ) (start : From t from) where
+  pub one-fault : HeadAt t (placeIn from) (head (leavesOf fam) (drop (placeIn from) t)) end → 16777215 < end → ScannedOne fam t left from end
   one-fault h b =
-      let v = head-stops t (placeIn from) (head leafHead (drop (placeIn from) t)) end (start .0 .1) h b in
-      stopped (elem-fault leafHead left (countIn from) (drop (placeIn from) t) (faultIn end) (v .0)) (omega arith) (v .1)
+      let v = head-stops t (placeIn from) (head (leavesOf fam) (drop (placeIn from) t)) end (start .0 .1) h b in
+      stopped (elem-fault (leavesOf fam) left (countIn from) (drop (placeIn from) t) (faultIn end) (v .0)) (omega arith) (v .1)
 
   module _ (sound : end ≤ 16777215) where
-    pub one-deep : HeadAt t (placeIn from) (head leafHead (drop (placeIn from) t)) end → (r : ℕ) → r ≡ 16777215 + 7 → left ≡ 0 → ScannedOne t left from r
+    pub one-deep : HeadAt t (placeIn from) (head (leavesOf fam) (drop (placeIn from) t)) end → (r : ℕ) → r ≡ 16777215 + 7 → left ≡ 0 → ScannedOne fam t left from r
     unfolding tooDeep
     one-deep (faulty q p s) r e z = absurd (omega arith)
     one-deep (aLeaf l q k a i) r e z =
         let f : _≡_ {A = ℕ} 7 (faultIn r) = omega arith in
-        stopped (deep-refused leafHead left (countIn from) (drop (placeIn from) t) z ∙ ap tooDeep q ∙ ap refuse f) (omega arith) (omega arith)
+        stopped (deep-refused (leavesOf fam) left (countIn from) (drop (placeIn from) t) z ∙ ap tooDeep q ∙ ap refuse f) (omega arith) (omega arith)
     one-deep (aGroup c q k g i) r e z =
         let f : _≡_ {A = ℕ} 7 (faultIn r) = omega arith in
-        stopped (deep-refused leafHead left (countIn from) (drop (placeIn from) t) z ∙ ap tooDeep q ∙ ap refuse f) (omega arith) (omega arith)
+        stopped (deep-refused (leavesOf fam) left (countIn from) (drop (placeIn from) t) z ∙ ap tooDeep q ∙ ap refuse f) (omega arith) (omega arith)
 
     module _ (level : 0 < left) where
       -- the members of a list or complement begin two bytes on
-      pub one-group : HeadAt t (placeIn from) (head leafHead (drop (placeIn from) t)) end → groupKind (getD t (placeIn from) 0) ≡ true → (r : ℕ)
-          → ScannedAll t (left - 1) (getD t (placeIn from + 1) 0) (from + 2) r → ScannedOne t left from r
+      pub one-group : HeadAt t (placeIn from) (head (leavesOf fam) (drop (placeIn from) t)) end → groupKind (getD t (placeIn from) 0) ≡ true → (r : ℕ)
+          → ScannedAll fam t (left - 1) (getD t (placeIn from + 1) 0) (from + 2) r → ScannedOne fam t left from r
       one-group (faulty q p s) k r h = absurd (omega arith)
       one-group (aLeaf l q g a i) k r h = absurd (clash k g)
       one-group (aGroup c q g e i) k r h =
           let place : (from + 2) % 65536 ≡ end = omega (arith, start .0 .1) in
           let same : (from + 2) / 65536 ≡ from / 65536 = omega (arith, start .0 .1) in
-          let h₁ : Noted (λ (a : Counted (Elems Leaf)). leavesTo a ≡ countIn r) t (many (elem leafHead (left - 1)) (getD t (placeIn from + 1) 0) (from / 65536) (drop end t)) (faultIn r) (placeIn r) = rw (place, same) at h in
-          rw (group-opens leafHead left (countIn from) (drop (placeIn from) t) c (getD t (placeIn from + 1) 0) (drop end t) level q) (closed-noted t c _ (countIn r) (faultIn r) (placeIn r) h₁)
+          let h₁ : Noted (λ (a : Counted (Elems (LeafOf fam))). leavesTo a ≡ countIn r) t (many (elem (leavesOf fam) (left - 1)) (getD t (placeIn from + 1) 0) (from / 65536) (drop end t)) (faultIn r) (placeIn r) = rw (place, same) at h in
+          rw (group-opens (leavesOf fam) left (countIn from) (drop (placeIn from) t) c (getD t (placeIn from + 1) 0) (drop end t) level q) (closed-noted t c _ (countIn r) (faultIn r) (placeIn r) h₁)
 
-      pub one-leaf : HeadAt t (placeIn from) (head leafHead (drop (placeIn from) t)) end → groupKind (getD t (placeIn from) 0) ≡ false → (r : ℕ) → r ≡ afterLeaf from (end - placeIn from) → ScannedOne t left from r
-      unfolding leavesTo
-      one-leaf (faulty q p s) k r e = absurd (omega arith)
-      one-leaf (aGroup c q g x i) k r e = absurd (clash g k)
-      one-leaf (aLeaf l q g a i) k r e =
-          by-test (ltb 63 (countIn from))
-          (λ over.
-          let e₁ : r ≡ 16777215 + 8 = rw over at e in
+      -- a 65th leaf, and any before it
+      pub one-over : HeadAt t (placeIn from) (head (leavesOf fam) (drop (placeIn from) t)) end → groupKind (getD t (placeIn from) 0) ≡ false → (r : ℕ) → r ≡ 16777215 + 8 → 63 < countIn from → ScannedOne fam t left from r
+      one-over (faulty q p s) k r e over = absurd (omega arith)
+      one-over (aGroup c q g x i) k r e over = absurd (clash g k)
+      one-over (aLeaf l q g a i) k r e over =
           let f : _≡_ {A = ℕ} 8 (faultIn r) = omega arith in
-          stopped (leaf-over leafHead left (countIn from) (drop (placeIn from) t) l (drop end t) level (ltb-true 63 (countIn from) over) q ∙ ap refuse f) (omega arith) (omega arith))
-          (λ few.
-          let e₁ : r ≡ from + 65536 + (end - placeIn from) = rw few at e in
-          let small : from / 65536 ≤ 63 = ltb-false 63 (countIn from) few in
+          stopped (leaf-over (leavesOf fam) left (countIn from) (drop (placeIn from) t) l (drop end t) level over q ∙ ap refuse f) (omega arith) (omega arith)
+
+      pub one-leaf : HeadAt t (placeIn from) (head (leavesOf fam) (drop (placeIn from) t)) end → groupKind (getD t (placeIn from) 0) ≡ false → (r : ℕ) → r ≡ from + 65536 + (end - placeIn from) → countIn from ≤ 63 → ScannedOne fam t left from r
+      unfolding leavesTo
+      one-leaf (faulty q p s) k r e few = absurd (omega arith)
+      one-leaf (aGroup c q g x i) k r e few = absurd (clash g k)
+      one-leaf (aLeaf l q g a i) k r e few =
           let place : r % 65536 ≡ end = omega (arith, start .0 .1) in
           let count : from / 65536 + 1 ≡ r / 65536 = omega (arith, start .0 .1) in
           let z : faultIn r ≡ 0 = omega (arith, start .0 .1) in
-          let o : elem leafHead left (countIn from) (drop (placeIn from) t) ≡ got (counted (leaf l) (from / 65536 + 1)) (drop (placeIn r) t) =
-          leaf-counts leafHead left (countIn from) (drop (placeIn from) t) l (drop end t) level small q ∙ ap (λ p. got (counted (leaf l) (from / 65536 + 1)) (drop p t)) (sym place) in
-          noted (counted (leaf l) (from / 65536 + 1)) o z count (omega arith))
+          let o : elem (leavesOf fam) left (countIn from) (drop (placeIn from) t) ≡ got (counted (leaf l) (from / 65536 + 1)) (drop (placeIn r) t) =
+          leaf-counts (leavesOf fam) left (countIn from) (drop (placeIn from) t) l (drop end t) level few q ∙ ap (λ p. got (counted (leaf l) (from / 65536 + 1)) (drop p t)) (sym place) in
+          noted (counted (leaf l) (from / 65536 + 1)) o z count (omega arith)
 
 -- ---- several, one after the other
 
-put-noted : (t : List ℕ) (e : Elem Leaf) (o : Read (Counted (Elems Leaf))) (k code next : ℕ) → Noted (λ (a : Counted (Elems Leaf)). leavesTo a ≡ k) t o code next → Noted (λ (a : Counted (Elems Leaf)). leavesTo a ≡ k) t (putFirst e o) code next
+put-noted : {L : Type 0} (t : List ℕ) (e : Elem L) (o : Read (Counted (Elems L))) (k code next : ℕ) → Noted (λ (a : Counted (Elems L)). leavesTo a ≡ k) t o code next → Noted (λ (a : Counted (Elems L)). leavesTo a ≡ k) t (putFirst e o) code next
 unfolding putFirst leavesTo
 put-noted t e o k code next (stopped q h s) = stopped (ap (putFirst e) q) h s
 put-noted t e o k code next (noted (counted es j) q z v i) = noted (counted (more e es) j) (ap (putFirst e) q) z v i
 
-module _ (t : List ℕ) (left : ℕ) where
+module _ (fam : Family) (t : List ℕ) (left : ℕ) where
   -- what one makes of the place and leaves so far
-  one-next : (from s : ℕ) → ScannedOne t left from s → s ≤ 16777215 → (e : Elem Leaf) × (elem leafHead left (countIn from) (drop (placeIn from) t) ≡ got (counted e (countIn s)) (drop (placeIn s) t)) × (placeIn s ≤ length t)
+  one-next : (from s : ℕ) → ScannedOne fam t left from s → s ≤ 16777215 → (e : Elem (LeafOf fam)) × (elem (leavesOf fam) left (countIn from) (drop (placeIn from) t) ≡ got (counted e (countIn s)) (drop (placeIn s) t)) × (placeIn s ≤ length t)
   unfolding leavesTo
   one-next from s (stopped q p b) l = absurd (omega arith)
   one-next from s (noted (counted e j) q z v i) l = (e, q ∙ ap (λ k. got (counted e k) (drop (placeIn s) t)) v, i)
 
-  pub next-fits : (from s : ℕ) → ScannedOne t left from s → s ≤ 16777215 → placeIn s ≤ length t
+  pub next-fits : (from s : ℕ) → ScannedOne fam t left from s → s ≤ 16777215 → placeIn s ≤ length t
   next-fits from s h l = one-next from s h l .2
 
-  pub all-step : (n from s r : ℕ) → 0 < n → ScannedOne t left from s → s ≤ 16777215 → ScannedAll t left (n - 1) s r → ScannedAll t left n from r
+  pub all-step : (n from s r : ℕ) → 0 < n → ScannedOne fam t left from s → s ≤ 16777215 → ScannedAll fam t left (n - 1) s r → ScannedAll fam t left n from r
   unfolding many thenMore
   all-step zero from s r b h l g = absurd (omega arith)
   all-step (suc n) from s r b h l g =
       let v = one-next from s h l in
       let down : suc n - 1 ≡ n = omega arith in
-      let g₁ : ScannedAll t left n s r = rw down at g in
+      let g₁ : ScannedAll fam t left n s r = rw down at g in
       rw (v .1) (put-noted t (v .0) _ (countIn r) (faultIn r) (placeIn r) g₁)
 
-  pub all-stop : (n from s : ℕ) → 0 < n → ScannedOne t left from s → 16777215 < s → ScannedAll t left n from s
+  pub all-stop : (n from s : ℕ) → 0 < n → ScannedOne fam t left from s → 16777215 < s → ScannedAll fam t left n from s
   unfolding many thenMore
   all-stop zero from s b h l = absurd (omega arith)
   all-stop (suc n) from s b h l =
       let v = noted-stopped _ _ _ _ _ h (omega arith) in
-      stopped (ap (λ o. thenMore o (many (elem leafHead left) n)) (v .0)) (omega arith) (v .1)
+      stopped (ap (λ o. thenMore o (many (elem (leavesOf fam) left) n)) (v .0)) (omega arith) (v .1)
 
-  pub all-end : (n from : ℕ) → n ≡ 0 → From t from → ScannedAll t left n from from
+  pub all-end : (n from : ℕ) → n ≡ 0 → From t from → ScannedAll fam t left n from from
   unfolding many leavesTo
   all-end zero from e f = noted (counted none (countIn from)) refl (omega (arith, f .1)) refl (f .0 .0)
   all-end (suc n) from e f = absurd (omega arith)
 
+  -- the last one gives what all of them give
+  pub all-last : (n from r : ℕ) → n ≡ 1 → From t from → ScannedOne fam t left from r → ScannedAll fam t left n from r
+  all-last n from r one f h =
+      ⊎-elim
+      (λ (l : 16777215 < r). all-stop n from r (omega arith) h l)
+      (λ (l : r ≤ 16777215). all-step n from r r (omega arith) h l (all-end (n - 1) r (omega arith) ((next-fits from r h l, f .0 .1), l)))
+      (below 16777215 r)
+
 -- ---- an element template at depth 1, after its record
 
-module _ (t : List ℕ) (at end : ℕ) (short : length t < 65536) where
-  pub head-ended : HeadAt t at (head leafHead (drop at t)) end → 16777215 < end → Ended t (outermost leafHead (drop at t)) end
+module _ (fam : Family) (t : List ℕ) (at end : ℕ) (short : length t < 65536) where
+  pub head-ended : HeadAt t at (head (leavesOf fam) (drop at t)) end → 16777215 < end → Ended t (outermost (leavesOf fam) (drop at t)) end
   head-ended h b =
-      let v = head-stops t at (head leafHead (drop at t)) end short h b in
-      stopped (elem-fault leafHead 8 0 (drop at t) (faultIn end) (v .0)) (omega arith) (v .1)
+      let v = head-stops t at (head (leavesOf fam) (drop at t)) end short h b in
+      stopped (elem-fault (leavesOf fam) 8 0 (drop at t) (faultIn end) (v .0)) (omega arith) (v .1)
 
   module _ (sound : end ≤ 16777215) where
-    pub leaf-ended : HeadAt t at (head leafHead (drop at t)) end → groupKind (getD t at 0) ≡ false → Ended t (outermost leafHead (drop at t)) end
+    pub leaf-ended : HeadAt t at (head (leavesOf fam) (drop at t)) end → groupKind (getD t at 0) ≡ false → Ended t (outermost (leavesOf fam) (drop at t)) end
     leaf-ended (faulty q p s) k = absurd (omega arith)
     leaf-ended (aGroup c q g x i) k = absurd (clash g k)
-    leaf-ended (aLeaf l q g a i) k = noted _ (leaf-counts leafHead 8 0 (drop at t) l (drop end t) (omega arith) (omega arith) q) (omega arith) tt i
+    leaf-ended (aLeaf l q g a i) k = noted _ (leaf-counts (leavesOf fam) 8 0 (drop at t) l (drop end t) (omega arith) (omega arith) q) (omega arith) tt i
 
-    module _ (r : ℕ) (held : ScannedAll t 7 (getD t (at + 1) 0) end r) where
-      outer : HeadAt t at (head leafHead (drop at t)) end → groupKind (getD t at 0) ≡ true → Noted (λ (a : Counted (Elem Leaf)). leavesTo a ≡ countIn r) t (outermost leafHead (drop at t)) (faultIn r) (placeIn r)
+    module _ (r : ℕ) (held : ScannedAll fam t 7 (getD t (at + 1) 0) end r) where
+      outer : HeadAt t at (head (leavesOf fam) (drop at t)) end → groupKind (getD t at 0) ≡ true → Noted (λ (a : Counted (Elem (LeafOf fam))). leavesTo a ≡ countIn r) t (outermost (leavesOf fam) (drop at t)) (faultIn r) (placeIn r)
       outer (faulty q p s) k = absurd (omega arith)
       outer (aLeaf l q g a i) k = absurd (clash k g)
       outer (aGroup c q g e i) k =
           let place : end % 65536 ≡ end = omega arith in
           let none-yet : end / 65536 ≡ 0 = omega arith in
-          let h₁ : Noted (λ (a : Counted (Elems Leaf)). leavesTo a ≡ countIn r) t (many (elem leafHead 7) (getD t (at + 1) 0) 0 (drop end t)) (faultIn r) (placeIn r) = rw (place, none-yet) at held in
-          rw (group-opens leafHead 8 0 (drop at t) c (getD t (at + 1) 0) (drop end t) (omega arith) q) (closed-noted t c _ (countIn r) (faultIn r) (placeIn r) h₁)
+          let h₁ : Noted (λ (a : Counted (Elems (LeafOf fam))). leavesTo a ≡ countIn r) t (many (elem (leavesOf fam) 7) (getD t (at + 1) 0) 0 (drop end t)) (faultIn r) (placeIn r) = rw (place, none-yet) at held in
+          rw (group-opens (leavesOf fam) 8 0 (drop at t) c (getD t (at + 1) 0) (drop end t) (omega arith) q) (closed-noted t c _ (countIn r) (faultIn r) (placeIn r) h₁)
 
-      pub group-stopped : HeadAt t at (head leafHead (drop at t)) end → groupKind (getD t at 0) ≡ true → 16777215 < r → Ended t (outermost leafHead (drop at t)) r
+      pub group-stopped : HeadAt t at (head (leavesOf fam) (drop at t)) end → groupKind (getD t at 0) ≡ true → 16777215 < r → Ended t (outermost (leavesOf fam) (drop at t)) r
       group-stopped h k b = let v = noted-stopped _ _ _ _ _ (outer h k) (omega arith) in stopped (v .0) (omega arith) (v .1)
 
-      pub group-ended : HeadAt t at (head leafHead (drop at t)) end → groupKind (getD t at 0) ≡ true → r ≤ 16777215 → Ended t (outermost leafHead (drop at t)) (r % 65536)
+      pub group-ended : HeadAt t at (head (leavesOf fam) (drop at t)) end → groupKind (getD t at 0) ≡ true → r ≤ 16777215 → Ended t (outermost (leavesOf fam) (drop at t)) (r % 65536)
       group-ended h k b = let v = noted-read _ _ _ _ _ (outer h k) (omega arith) in noted (v .0) (v .1) (omega arith) tt (v .3)

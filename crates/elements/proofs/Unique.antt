@@ -1,30 +1,27 @@
 -- Each public function's promise allows one result only, stated of the contract itself: the number says the refusal too. Assumes nothing.
-use mathlib.Core.Path.{_≡_, sym, ap, ap₂, _∙_}
+use mathlib.Core.Path.{_≡_, sym, _∙_}
 use mathlib.Core.List.{List}
-use Prim.Native.Nat.{ℕ, _-_, _≤_, _<_}
+use Prim.Native.Nat.{ℕ}
 use native.Mathlib.Omega.{arith}
-use lib.IntN.{ℤ}
-use lib.ListN.{length, drop}
+use lib.ListN.{drop}
 use borrow.Fn.Kinds.{Dens, resT, endedOf}
 use contract.Lifetimes.{Lfts}
 use denote.Triple.Clauses.{AtExit}
 use Rattle.grammar.specs.Record.{Head}
 use Rattle.grammar.specs.Read.{Read}
 use Rattle.elements.specs.Contract.{faultIn, HeadAt, faulty, aLeaf, aGroup, Noted, stopped, noted, Answered, rejected, accepted}
-use Rattle.elements.specs.Leaves.{LeafHere, BoundsHere}
-use Rattle.elements.specs.declared.leaf.Bounds.{Bounds}
 use Rattle.elements.proofs.refusal.Reads as refusal
 use Rattle.elements.proofs.refusal.Kinds as refusal-kinds
 use Rattle.elements.proofs.count_fault.Reads as count-fault
 use Rattle.elements.proofs.count_fault.Kinds as count-fault-kinds
-use Rattle.elements.proofs.head_end.Reads as head-end
-use Rattle.elements.proofs.head_end.Kinds as head-end-kinds
+use Rattle.elements.proofs.integer_head_end.Reads as integer-head-end
+use Rattle.elements.proofs.integer_head_end.Kinds as integer-head-end-kinds
+use Rattle.elements.proofs.float_head_end.Reads as float-head-end
+use Rattle.elements.proofs.float_head_end.Kinds as float-head-end-kinds
 use Rattle.elements.proofs.rest_end.Reads as rest-end
 use Rattle.elements.proofs.rest_end.Kinds as rest-end-kinds
 use Rattle.elements.proofs.scan_element.Reads as scan-element
 use Rattle.elements.proofs.scan_element.Kinds as scan-element-kinds
-use Rattle.elements.proofs.leaf.bounds_at.Reads as bounds-at
-use Rattle.elements.proofs.leaf.bounds_at.Kinds as bounds-at-kinds
 use Rattle.facts.proofs.Slices.{same-place}
 
 -- one reading has one number
@@ -61,9 +58,13 @@ pub count-fault-unique : (κs : Lfts 1) (a : Dens κs count-fault-kinds.ps) (r r
     → count-fault.Post κs a r s → count-fault.Post κs a r′ s′ → r ≡ r′
 count-fault-unique κs a r r′ s s′ p q = p ∙ sym q
 
-pub head-end-unique : (κs : Lfts 1) (a : Dens κs head-end-kinds.ps) (r r′ : resT head-end-kinds.r κs .Denot) (s s′ : AtExit (endedOf 1 head-end-kinds.ps head-end-kinds.r) κs)
-    → head-end.Post κs a r s → head-end.Post κs a r′ s′ → r ≡ r′
-head-end-unique κs a r r′ s s′ p q = head-same _ _ _ r r′ p q
+pub integer-head-end-unique : (κs : Lfts 1) (a : Dens κs integer-head-end-kinds.ps) (r r′ : resT integer-head-end-kinds.r κs .Denot) (s s′ : AtExit (endedOf 1 integer-head-end-kinds.ps integer-head-end-kinds.r) κs)
+    → integer-head-end.Post κs a r s → integer-head-end.Post κs a r′ s′ → r ≡ r′
+integer-head-end-unique κs a r r′ s s′ p q = head-same _ _ _ r r′ p q
+
+pub float-head-end-unique : (κs : Lfts 1) (a : Dens κs float-head-end-kinds.ps) (r r′ : resT float-head-end-kinds.r κs .Denot) (s s′ : AtExit (endedOf 1 float-head-end-kinds.ps float-head-end-kinds.r) κs)
+    → float-head-end.Post κs a r s → float-head-end.Post κs a r′ s′ → r ≡ r′
+float-head-end-unique κs a r r′ s s′ p q = head-same _ _ _ r r′ p q
 
 pub rest-end-unique : (κs : Lfts 1) (a : Dens κs rest-end-kinds.ps) (r r′ : resT rest-end-kinds.r κs .Denot) (s s′ : AtExit (endedOf 1 rest-end-kinds.ps rest-end-kinds.r) κs)
     → rest-end.Post κs a r s → rest-end.Post κs a r′ s′ → r ≡ r′
@@ -72,20 +73,3 @@ rest-end-unique κs a r r′ s s′ p q = noted-same _ _ _ _ r r′ p q
 pub scan-element-unique : (κs : Lfts 1) (a : Dens κs scan-element-kinds.ps) (r r′ : resT scan-element-kinds.r κs .Denot) (s s′ : AtExit (endedOf 1 scan-element-kinds.ps scan-element-kinds.r) κs)
     → scan-element.Post κs a r s → scan-element.Post κs a r′ s′ → r ≡ r′
 scan-element-unique κs a r r′ s s′ p q = answered-unique _ r r′ p q
-
--- the bounds of a leaf and the place after it, each field
-bounds-same : (t : List ℕ) (at : ℕ) (r r′ : Bounds) → LeafHere t at → BoundsHere t at (r .lower) (r .upper) (r .next) → BoundsHere t at (r′ .lower) (r′ .upper) (r′ .next) → r ≡ r′
-bounds-same t at r r′ w p q =
-    let u = p .right (w .what) (w .rest) (w .reads) in
-    let v = q .right (w .what) (w .rest) (w .reads) in
-    let lower : r .lower ≡ r′ .lower = u .0 ∙ sym (v .0) in
-    let upper : r .upper ≡ r′ .upper = u .1 ∙ sym (v .1) in
-    let next : r .next ≡ r′ .next = same-place t (r .next) (r′ .next) (p .inside) (q .inside) (u .2 ∙ sym (v .2)) in
-    ap₂ (λ (a b : ℤ). made a b (r .next)) lower upper ∙ ap (made (r′ .lower) (r′ .upper)) next
-  where
-    made : ℤ → ℤ → ℕ → Bounds
-    made a b n = record { lower = a; upper = b; next = n }
-
-pub bounds-at-unique : (κs : Lfts 1) (a : Dens κs bounds-at-kinds.ps) (r r′ : resT bounds-at-kinds.r κs .Denot) (s s′ : AtExit (endedOf 1 bounds-at-kinds.ps bounds-at-kinds.r) κs)
-    → bounds-at.Pre κs a → bounds-at.Post κs a r s → bounds-at.Post κs a r′ s′ → r ≡ r′
-bounds-at-unique κs a r r′ s s′ w p q = bounds-same _ _ r r′ w p q

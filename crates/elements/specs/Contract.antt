@@ -9,21 +9,21 @@
 -- Noted Tells t o code next <-> what a scan says of the reading o: the refusal `code`, never 0; or `code` 0, `next` the place after what
 --                      was read, and what Tells says of it
 -- Ended t o r        <-> r says the refusal of the reading o, or the place after what was read
--- ScannedOne t left from r <-> r says this, and the leaves so far, of the element template after `from`, with so many depths left
--- ScannedAll t left n from r <-> this of n of them
--- afterLeaf from size == what is said of a leaf of so many bytes after `from`: a 65th is 8
+-- ScannedOne f t left from r <-> r says this, and the leaves so far, of the element template of the family f after `from`, with so many depths left
+-- ScannedAll f t left n from r <-> this of n of them
 -- Answered o r       <-> r is the number for the whole reading o: the refusal's, never 0; or 0 where o is accepted
 -- leavesTo c         == the leaves so far
 -- Assumes nothing: these are definitions.
 use mathlib.Core.Path.{_≡_}
-use mathlib.Core.Bool.{Bool, true, false, _||_, cond}
+use mathlib.Core.Bool.{Bool, true, false, _||_}
 use mathlib.Core.List.{List, []}
 use Prim.Native.Nat.{ℕ, _+_, _-_, _/_, _%_, _≤_, _<_}
-use lib.Dec.{ltb, eqb}
+use lib.Dec.{eqb}
 use lib.ListN.{length, getD, drop}
 use Rattle.grammar.specs.Element.{Elem, Elems}
 use Rattle.grammar.specs.Record.{Head, fault, leafHere, group}
-use Rattle.grammar.specs.Leaf.{Leaf, leafHead}
+use Rattle.format.specs.declared.Family.{Family}
+use Rattle.grammar.specs.Family.{LeafOf, leavesOf}
 use Rattle.grammar.specs.Read.{Read, refuse, got}
 use Rattle.grammar.specs.Reading.{Counted, counted, many, elem}
 
@@ -64,11 +64,8 @@ pub data Answered {A : Type 0} (o : Read A) (r : ℕ) : Type 0 where
 unfoldable pub leavesTo : {A : Type 0} → Counted A → ℕ
 leavesTo (counted a k) = k
 
-abbrev pub ScannedOne : List ℕ → ℕ → ℕ → ℕ → Type 0
-ScannedOne t left from r = Noted (λ (c : Counted (Elem Leaf)). leavesTo c ≡ countIn r) t (elem leafHead left (countIn from) (drop (placeIn from) t)) (faultIn r) (placeIn r)
+abbrev pub ScannedOne : Family → List ℕ → ℕ → ℕ → ℕ → Type 0
+ScannedOne f t left from r = Noted (λ (c : Counted (Elem (LeafOf f))). leavesTo c ≡ countIn r) t (elem (leavesOf f) left (countIn from) (drop (placeIn from) t)) (faultIn r) (placeIn r)
 
-abbrev pub ScannedAll : List ℕ → ℕ → ℕ → ℕ → ℕ → Type 0
-ScannedAll t left n from r = Noted (λ (c : Counted (Elems Leaf)). leavesTo c ≡ countIn r) t (many (elem leafHead left) n (countIn from) (drop (placeIn from) t)) (faultIn r) (placeIn r)
-
-abbrev pub afterLeaf : ℕ → ℕ → ℕ
-afterLeaf from size = cond (ltb 63 (countIn from)) (16777215 + 8) (from + 65536 + size)
+abbrev pub ScannedAll : Family → List ℕ → ℕ → ℕ → ℕ → ℕ → Type 0
+ScannedAll f t left n from r = Noted (λ (c : Counted (Elems (LeafOf f))). leavesTo c ≡ countIn r) t (many (elem (leavesOf f) left) n (countIn from) (drop (placeIn from) t)) (faultIn r) (placeIn r)

@@ -4,10 +4,17 @@ ghost use mathlib.Core.Path.{_≡_};
 ghost use mathlib.Core.Bool.{Bool, true};
 ghost use Prim.Native.Nat.{_+_, _<_, _≤_};
 ghost use lib.ListN.{length, getD, drop};
-ghost use Rattle.grammar.specs.Leaf.{Leaf, leafHead};
+ghost use Rattle.format.specs.declared.Family.{Family};
+ghost use Rattle.grammar.specs.Leaf.{leafHead};
+ghost use Rattle.grammar.specs.FloatLeaf.{floatHead};
+ghost use Rattle.grammar.specs.Family.{LeafOf, leavesOf};
 ghost use Rattle.grammar.specs.Record.{countFault, groupHead, head};
 ghost use Rattle.grammar.specs.Reading.{outermost, readElement};
-ghost use Rattle.elements.specs.Contract.{Place, groupKind, HeadAt, From, ScannedAll, afterLeaf, Ended, Answered};
+ghost use Rattle.elements.specs.Contract.{Place, groupKind, HeadAt, From, ScannedAll, Ended, Answered};
+use floats::Bounds;
+use floats::bounds_fault;
+use floats::float_at;
+use floats::one_fault;
 use format::ANY;
 use format::ANY_SIZE;
 use format::BAD_BOUNDS;
@@ -18,6 +25,11 @@ use format::COUNT_SIZE;
 use format::DEPTH_MOST;
 use format::DONE;
 use format::FAULT;
+use format::FLOAT;
+use format::FLOAT_RANGE;
+use format::FLOAT_RANGE_SIZE;
+use format::FLOAT_SIZE;
+use format::Family;
 use format::GROUP_MOST;
 use format::LAST_LEAF;
 use format::LEFT_OVER;
@@ -34,7 +46,10 @@ use format::TOO_LONG;
 use format::TOO_MANY;
 use integers::int_at;
 
-pub mod leaf; // the bounds of a leaf
+// What the leaves of a template are.
+pub struct Sort {
+    pub family: Family,
+}
 
 // The answer that says this refusal.
 pub fn refusal(code: u8) -> usize
@@ -71,7 +86,7 @@ pub fn count_fault(t: &[u8], at: usize, lo: u8, hi: u8) -> u8
 // The place after the record of the list or the complement at `at`, or its fault.
 fn group_head_end(t: &[u8], at: usize) -> usize
     requires { ⌜ Place (now t) at ⌝ }
-    ensures { λ r. ⌜ ((c : Bool) → groupKind (getD (now (t .entry)) at 0) ≡ true → HeadAt {L = Leaf} (now (t .entry)) at (groupHead c (drop at (now (t .entry)))) r) ⌝ }
+    ensures { λ r. ⌜ ((f : Family) (c : Bool) → groupKind (getD (now (t .entry)) at 0) ≡ true → HeadAt {L = LeafOf f} (now (t .entry)) at (groupHead c (drop at (now (t .entry)))) r) ⌝ }
 {
     let code = count_fault(t, at, 1, GROUP_MOST);
     if code != DONE {
@@ -80,8 +95,8 @@ fn group_head_end(t: &[u8], at: usize) -> usize
     at + COUNT_SIZE
 }
 
-// The place after the leaf at `at`, or its fault.
-fn leaf_end(t: &[u8], at: usize) -> usize
+// The place after the leaf of the integer family at `at`, or its fault.
+fn integer_end(t: &[u8], at: usize) -> usize
     requires { ⌜ (at < length (now t)) × (length (now t) < 65536) ⌝ }
     ensures { λ r. ⌜ HeadAt (now (t .entry)) at (leafHead (drop at (now (t .entry)))) r ⌝ }
 {
@@ -108,8 +123,43 @@ fn leaf_end(t: &[u8], at: usize) -> usize
     refusal(BAD_KIND)
 }
 
-// The place after the element template's record at `at`, or its own fault.
-pub fn head_end(t: &[u8], at: usize) -> usize
+// The place after the leaf of the float family at `at`, or its fault.
+fn float_end(t: &[u8], at: usize) -> usize
+    requires { ⌜ (at < length (now t)) × (length (now t) < 65536) ⌝ }
+    ensures { λ r. ⌜ HeadAt (now (t .entry)) at (floatHead (drop at (now (t .entry)))) r ⌝ }
+{
+    let kind = t[at];
+    let room = t.len() - at;
+    if kind == FLOAT {
+        if room < FLOAT_SIZE {
+            return refusal(MISSING);
+        }
+        let code = one_fault(float_at(t, at + 1));
+        if code != DONE {
+            return refusal(code);
+        }
+        return at + FLOAT_SIZE;
+    }
+    if kind == FLOAT_RANGE {
+        if room < FLOAT_RANGE_SIZE {
+            return refusal(MISSING);
+        }
+        let lower = float_at(t, at + 1);
+        let upper = float_at(t, at + 9);
+        let code = bounds_fault(Bounds { lower, upper });
+        if code != DONE {
+            return refusal(code);
+        }
+        return at + FLOAT_RANGE_SIZE;
+    }
+    if kind == ANY {
+        return at + ANY_SIZE;
+    }
+    refusal(BAD_KIND)
+}
+
+// The place after the record of an element template of the integer family at `at`, or its own fault.
+pub fn integer_head_end(t: &[u8], at: usize) -> usize
     requires { ⌜ Place (now t) at ⌝ }
     ensures { λ r. ⌜ HeadAt (now (t .entry)) at (head leafHead (drop at (now (t .entry)))) r ⌝ }
 {
@@ -119,76 +169,120 @@ pub fn head_end(t: &[u8], at: usize) -> usize
     if is_group(t[at]) {
         return group_head_end(t, at);
     }
-    leaf_end(t, at)
+    integer_end(t, at)
 }
 
-// A leaf of so many bytes after the place and the leaves `from`.
-fn past_leaf(from: usize, size: usize) -> usize
-    requires { ⌜ (from ≤ 16777215) × (size < 65536) ⌝ }
-    ensures { λ r. ⌜ r ≡ afterLeaf from size ⌝ }
+// The same of the float family.
+pub fn float_head_end(t: &[u8], at: usize) -> usize
+    requires { ⌜ Place (now t) at ⌝ }
+    ensures { λ r. ⌜ HeadAt (now (t .entry)) at (head floatHead (drop at (now (t .entry)))) r ⌝ }
 {
-    if LAST_LEAF < from / ONE_MORE {
-        return refusal(TOO_MANY);
+    if at == t.len() {
+        return refusal(MISSING);
     }
-    from + ONE_MORE + size
+    if is_group(t[at]) {
+        return group_head_end(t, at);
+    }
+    float_end(t, at)
 }
 
-// n element templates after the place and the leaves `from`, with so many depths left. A leaf is read here; what has members is a call.
-fn scan_all(t: &[u8], from: usize, n: usize, left: usize) -> usize
+// The same, lent the bytes on its own: what is lent to a function that is called stands in memory, and the way of the integers
+// keeps the bytes at hand.
+fn float_record_end(t: &[u8], at: usize) -> usize
+    requires { ⌜ Place (now t) at ⌝ }
+    ensures { λ r. ⌜ HeadAt (now (t .entry)) at (head floatHead (drop at (now (t .entry)))) r ⌝ }
+{
+    float_head_end(t, at)
+}
+
+// The place after the element template's record at `at`, or its own fault.
+fn head_end(t: &[u8], at: usize, sort: Sort) -> usize
+    requires { ⌜ Place (now t) at ⌝ }
+    ensures { λ r. ⌜ HeadAt (now (t .entry)) at (head (leavesOf (sort .family)) (drop at (now (t .entry)))) r ⌝ }
+{
+    let family = sort.family;
+    match family {
+        Family::Integers => integer_head_end(t, at),
+        Family::Floats => float_record_end(t, at),
+    }
+}
+
+// n element templates after the place and the leaves `from`, with so many depths left. A leaf is read here; what has members is a call, but for the
+// last one: its members are simply next, a depth further down.
+fn scan_all(t: &[u8], from: usize, n: usize, left: usize, sort: Sort) -> usize
     requires { ⌜ From (now t) from ⌝ }
-    ensures { λ r. ⌜ ScannedAll (now (t .entry)) left n from r ⌝ }
+    ensures { λ r. ⌜ ScannedAll (sort .family) (now (t .entry)) left n from r ⌝ }
 {
     let mut s = from;
     let mut more = n;
+    let mut depths = left;
     while 0 < more {
         let at = s % ONE_MORE;
-        let end = head_end(t, at);
+        let end = head_end(t, at, sort);
         if FAULT < end {
             return end;
         }
-        if left == 0 {
+        if depths == 0 {
             return refusal(TOO_DEEP);
         }
-        s = if is_group(t[at]) {
-            scan_all(t, s + COUNT_SIZE, t[at + 1] as usize, left - 1)
+        if is_group(t[at]) {
+            let k = t[at + 1] as usize;
+            if more == 1 {
+                s += COUNT_SIZE;
+                more = k;
+                depths -= 1;
+            } else {
+                s = scan_all(t, s + COUNT_SIZE, k, depths - 1, sort);
+                if FAULT < s {
+                    return s;
+                }
+                more -= 1;
+            }
         } else {
-            past_leaf(s, end - at)
-        };
-        if FAULT < s {
-            return s;
+            if LAST_LEAF < s / ONE_MORE {
+                return refusal(TOO_MANY);
+            }
+            s = s + ONE_MORE + (end - at);
+            more -= 1;
         }
-        more -= 1;
     }
     s
 }
 
 // The place after the element template at `at`, whose record ends at `end`, or the refusal of what it holds.
-pub fn rest_end(t: &[u8], at: usize, end: usize) -> usize
-    requires { ⌜ Place (now t) at × HeadAt (now t) at (head leafHead (drop at (now t))) end × (end ≤ 16777215) ⌝ }
-    ensures { λ r. ⌜ Ended (now (t .entry)) (outermost leafHead (drop at (now (t .entry)))) r ⌝ }
+pub fn rest_end(t: &[u8], at: usize, end: usize, sort: Sort) -> usize
+    requires { ⌜ Place (now t) at × HeadAt (now t) at (head (leavesOf (sort .family)) (drop at (now t))) end × (end ≤ 16777215) ⌝ }
+    ensures { λ r. ⌜ Ended (now (t .entry)) (outermost (leavesOf (sort .family)) (drop at (now (t .entry)))) r ⌝ }
 {
     if !is_group(t[at]) {
         return end;
     }
-    let s = scan_all(t, end, t[at + 1] as usize, DEPTH_MOST - 1);
+    let s = scan_all(t, end, t[at + 1] as usize, DEPTH_MOST - 1, sort);
     if FAULT < s {
         return s;
     }
     s % ONE_MORE
 }
 
-// The number for t as one element template by itself.
+// The number for t as one element template of the integer family by itself.
 pub fn scan_element(t: &[u8]) -> u8
     ensures { λ r. ⌜ Answered (readElement leafHead (now (t .entry))) r ⌝ }
 {
     if TEMPLATE_MOST < t.len() {
         return TOO_LONG;
     }
-    let head = head_end(t, 0);
+    let head = integer_head_end(t, 0);
     if FAULT < head {
         return (head - FAULT) as u8;
     }
-    let end = rest_end(t, 0, head);
+    let end = rest_end(
+        t,
+        0,
+        head,
+        Sort {
+            family: Family::Integers,
+        },
+    );
     if FAULT < end {
         return (end - FAULT) as u8;
     }

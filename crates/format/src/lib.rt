@@ -3,6 +3,12 @@
 ghost use mathlib.Core.Path.{_≡_};
 ghost use Rattle.format.specs.Bounds.{badBounds};
 
+// ---- the families: what the elements of a list are, and the leaves of its template
+pub enum Family {
+    Integers,
+    Floats,
+}
+
 // ---- kinds of records: element templates, bodies, items, the length attribute
 pub const SINGLE: u8 = 0x01;
 
@@ -13,6 +19,10 @@ pub const ANY: u8 = 0x03;
 pub const LIST: u8 = 0x04;
 
 pub const COMPLEMENT: u8 = 0x05;
+
+pub const FLOAT: u8 = 0x06;
+
+pub const FLOAT_RANGE: u8 = 0x07;
 
 pub const RECORD_OF: u8 = 0x10;
 
@@ -39,6 +49,10 @@ pub const SINGLE_SIZE: usize = 5;
 pub const RANGE_SIZE: usize = 9;
 
 pub const ANY_SIZE: usize = 1;
+
+pub const FLOAT_SIZE: usize = 9;
+
+pub const FLOAT_RANGE_SIZE: usize = 17;
 
 pub const COUNT_SIZE: usize = 2;
 
@@ -74,6 +88,8 @@ pub const LIST_TOO_LONG: u8 = 11;
 pub const ROOM_TOO_SHORT: u8 = 12;
 
 pub const OTHER_LENGTH: u8 = 13;
+
+pub const NOT_A_NUMBER: u8 = 14;
 
 // ---- limits. Leaves and members are numbered from 0, so the last of 64 leaves is 63 and the last of 32 members 31
 pub const TEMPLATE_MOST: usize = 4096;

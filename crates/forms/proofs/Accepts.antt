@@ -11,6 +11,7 @@ use lib.Signed.{ltZ, _≤ℤ_}
 use lib.ListN.{length, getD, drop}
 use borrow.Author.Tests.{ltb-false, le-ltb}
 use Rattle.ranges.proofs.JoinsAndGaps.{of-rank}
+use Rattle.format.specs.declared.Family.{Family}
 use Rattle.grammar.specs.Element.{Elem, leaf, oneOf, noneOf, Elems, none, more, leaves, leavesAll}
 use Rattle.grammar.specs.Leaf.{Leaf, single, range, any, leafHead}
 use Rattle.grammar.specs.Read.{Read, refuse, got, ended}
@@ -101,11 +102,11 @@ unfolding Good leaves
 step left k s e k′ s′ each (gotLeaf l d q x f c) = rw x (record { good = leaf-good s 0 l s′ q; count = c; few = omega arith; some = omega arith })
 step left k s e k′ s′ each (gotGroup false n i es d q m x) =
     let f = many-facts (elem leafHead (left - 1)) (each d) n k i es k′ s′ m in
-    let some : 0 < n = group-at s 0 false n i q .some in
+    let some : 0 < n = group-at s 0 Family.Integers false n i q .some in
     rw x (record { good = f .good; count = f .count; few = f .few some; some = f .some some })
 step left k s e k′ s′ each (gotGroup true n i es d q m x) =
     let f = many-facts (elem leafHead (left - 1)) (each d) n k i es k′ s′ m in
-    let some : 0 < n = group-at s 0 true n i q .some in
+    let some : 0 < n = group-at s 0 Family.Integers true n i q .some in
     rw x (record { good = f .good; count = f .count; few = f .few some; some = f .some some })
 
 pub elem-facts : (left k : ℕ) (s : List ℕ) (e : Elem Leaf) (k′ : ℕ) (s′ : List ℕ) → elem leafHead left k s ≡ got (counted e k′) s′ → Facts e k k′

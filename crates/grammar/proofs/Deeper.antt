@@ -11,11 +11,12 @@ use borrow.Author.Tests.{le-ltb}
 use lib.ListN.{length, length-drop}
 use Rattle.grammar.specs.Element.{Elem, Elems, none, more}
 use Rattle.grammar.specs.Record.{Head}
-use Rattle.grammar.specs.Leaf.{Leaf, leafHead}
+use Rattle.format.specs.declared.Family.{Family}
+use Rattle.grammar.specs.Family.{LeafOf, leavesOf}
 use Rattle.grammar.specs.Read.{Read, got}
 use Rattle.grammar.specs.Reading.{Counted, counted, putFirst, thenMore, many, closed, opened, elem}
 use Rattle.grammar.specs.Matches.{matchesBy, anyMatchesBy}
-use Rattle.grammar.proofs.ReadApart.{grouped, Got, gotLeaf, gotGroup, elem-inv, many-first, many-none, LeafAt, singleAt, rangeAt, anyAt, leaf-at, group-at}
+use Rattle.grammar.proofs.ReadApart.{grouped, Got, gotLeaf, gotGroup, elem-inv, many-first, many-none, singleAt, rangeAt, anyAt, oneAt, floatRangeAt, anyFloatAt, LeafOn, leaf-on, group-at}
 
 -- ---- one after the other
 
@@ -89,34 +90,38 @@ module _ {L : Type 0} (leaves : List ℕ → Head L) where
 -- ---- bytes that were read
 
 -- each element template takes one at least
-many-takes : (p : ℕ → List ℕ → Read (Counted (Elem Leaf))) → ((k : ℕ) (s : List ℕ) (e : Elem Leaf) (k′ : ℕ) (s′ : List ℕ) → p k s ≡ got (counted e k′) s′ → length s′ < length s)
-    → (n k : ℕ) (s : List ℕ) (es : Elems Leaf) (k′ : ℕ) (s′ : List ℕ) → many p n k s ≡ got (counted es k′) s′ → length s′ + n ≤ length s
+many-takes : {L : Type 0} (p : ℕ → List ℕ → Read (Counted (Elem L))) → ((k : ℕ) (s : List ℕ) (e : Elem L) (k′ : ℕ) (s′ : List ℕ) → p k s ≡ got (counted e k′) s′ → length s′ < length s)
+    → (n k : ℕ) (s : List ℕ) (es : Elems L) (k′ : ℕ) (s′ : List ℕ) → many p n k s ≡ got (counted es k′) s′ → length s′ + n ≤ length s
 many-takes p h zero k s es k′ s′ r = omega (arith, ap length (many-none p 0 k s es k′ s′ refl r .2))
 many-takes p h (suc n) k s es k′ s′ r =
     let f = many-first p n k s es k′ s′ r in
     omega (arith, h k s (f .e) (f .k₁) (f .s₁) (f .one), many-takes p h n (f .k₁) (f .s₁) (f .es₁) k′ s′ (f .others))
 
-leaf-takes : (s : List ℕ) (l : Leaf) (s′ : List ℕ) → LeafAt s 0 l s′ → length s′ < length s
-leaf-takes s l s′ (singleAt k i e r) = omega (arith, ap length r, length-drop 5 s)
-leaf-takes s l s′ (rangeAt k i o e r) = omega (arith, ap length r, length-drop 9 s)
-leaf-takes s l s′ (anyAt k i e r) = omega (arith, ap length r, length-drop 1 s)
+leaf-takes : (f : Family) (s : List ℕ) (l : LeafOf f) (s′ : List ℕ) → LeafOn f s 0 l s′ → length s′ < length s
+leaf-takes Family.Integers s l s′ (singleAt k i e r) = omega (arith, ap length r, length-drop 5 s)
+leaf-takes Family.Integers s l s′ (rangeAt k i o e r) = omega (arith, ap length r, length-drop 9 s)
+leaf-takes Family.Integers s l s′ (anyAt k i e r) = omega (arith, ap length r, length-drop 1 s)
+leaf-takes Family.Floats s l s′ (oneAt k i e r) = omega (arith, ap length r, length-drop 9 s)
+leaf-takes Family.Floats s l s′ (floatRangeAt k i e r) = omega (arith, ap length r, length-drop 17 s)
+leaf-takes Family.Floats s l s′ (anyFloatAt k i e r) = omega (arith, ap length r, length-drop 1 s)
 
-takes-by : (left : ℕ) → ((n k : ℕ) (s : List ℕ) (es : Elems Leaf) (k′ : ℕ) (s′ : List ℕ) → many (elem leafHead (left - 1)) n k s ≡ got (counted es k′) s′ → length s′ + n ≤ length s)
-    → (k : ℕ) (s : List ℕ) (e : Elem Leaf) (k′ : ℕ) (s′ : List ℕ) → Got leafHead left k s e k′ s′ → length s′ < length s
-takes-by left h k s e k′ s′ (gotLeaf l d q x f b) = leaf-takes s l s′ (leaf-at s 0 l s′ q)
-takes-by left h k s e k′ s′ (gotGroup c n i es d q m x) =
-    let g = group-at s 0 c n i q in
-    omega (arith, g .fits, ap length (g .after), length-drop 2 s, h n k i es k′ s′ m)
+module _ (fam : Family) where
+  takes-by : (left : ℕ) → ((n k : ℕ) (s : List ℕ) (es : Elems (LeafOf fam)) (k′ : ℕ) (s′ : List ℕ) → many (elem (leavesOf fam) (left - 1)) n k s ≡ got (counted es k′) s′ → length s′ + n ≤ length s)
+      → (k : ℕ) (s : List ℕ) (e : Elem (LeafOf fam)) (k′ : ℕ) (s′ : List ℕ) → Got (leavesOf fam) left k s e k′ s′ → length s′ < length s
+  takes-by left h k s e k′ s′ (gotLeaf l d q x f b) = leaf-takes fam s l s′ (leaf-on s 0 fam l s′ q)
+  takes-by left h k s e k′ s′ (gotGroup c n i es d q m x) =
+      let g = group-at s 0 fam c n i q in
+      omega (arith, g .fits, ap length (g .after), length-drop 2 s, h n k i es k′ s′ m)
 
-pub elem-takes : (left k : ℕ) (s : List ℕ) (e : Elem Leaf) (k′ : ℕ) (s′ : List ℕ) → elem leafHead left k s ≡ got (counted e k′) s′ → length s′ < length s
-elem-takes zero k s e k′ s′ r = go (elem-inv leafHead 0 k s e k′ s′ r)
-  where
-    go : Got leafHead 0 k s e k′ s′ → length s′ < length s
-    go (gotLeaf l d q x f b) = absurd (omega arith)
-    go (gotGroup c n i es d q m x) = absurd (omega arith)
-elem-takes (suc left) k s e k′ s′ r =
-    let down : suc left - 1 ≡ left = omega arith in
-    takes-by (suc left) (rw down (many-takes (elem leafHead left) (elem-takes left))) k s e k′ s′ (elem-inv leafHead (suc left) k s e k′ s′ r)
+  pub elem-takes : (left k : ℕ) (s : List ℕ) (e : Elem (LeafOf fam)) (k′ : ℕ) (s′ : List ℕ) → elem (leavesOf fam) left k s ≡ got (counted e k′) s′ → length s′ < length s
+  elem-takes zero k s e k′ s′ r = go (elem-inv (leavesOf fam) 0 k s e k′ s′ r)
+    where
+      go : Got (leavesOf fam) 0 k s e k′ s′ → length s′ < length s
+      go (gotLeaf l d q x f b) = absurd (omega arith)
+      go (gotGroup c n i es d q m x) = absurd (omega arith)
+  elem-takes (suc left) k s e k′ s′ r =
+      let down : suc left - 1 ≡ left = omega arith in
+      takes-by (suc left) (rw down (many-takes (elem (leavesOf fam) left) (elem-takes left))) k s e k′ s′ (elem-inv (leavesOf fam) (suc left) k s e k′ s′ r)
 
-pub members-take : (left n k : ℕ) (s : List ℕ) (es : Elems Leaf) (k′ : ℕ) (s′ : List ℕ) → many (elem leafHead left) n k s ≡ got (counted es k′) s′ → length s′ + n ≤ length s
-members-take left = many-takes (elem leafHead left) (elem-takes left)
+  pub members-take : (left n k : ℕ) (s : List ℕ) (es : Elems (LeafOf fam)) (k′ : ℕ) (s′ : List ℕ) → many (elem (leavesOf fam) left) n k s ≡ got (counted es k′) s′ → length s′ + n ≤ length s
+  members-take left = many-takes (elem (leavesOf fam) left) (elem-takes left)

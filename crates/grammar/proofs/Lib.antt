@@ -7,6 +7,7 @@
 -- RefusalNumbers == which numbers a refusal can have
 -- MemberLimit    == what was accepted has at most 4,096 bytes and 32 members
 -- Members        == the numbers of members
+-- Families       == the lists of the two families
 mod Examples
 pub mod RecordParts
 pub mod ReadApart
@@ -15,3 +16,4 @@ pub mod LeafBounds
 pub mod RefusalNumbers
 pub mod MemberLimit
 pub mod Members
+pub mod Families

@@ -1,36 +1,49 @@
 -- Which numbers a refusal can have: what holds of the table's rows holds of every refusal. Assumes nothing.
--- Row Q         <-> Q holds of the numbers 3 to 8, those of one record of an element template
+-- Row fam Q     <-> Q holds of the numbers 3 to 8, those of one record of an element template, and in the float family of 14
 -- Refusals Q o  <-> Q holds of o's number, where o is a refusal
 -- elem-numbers, whole-numbers == so it is of element templates, and, where Q holds of 9 too, of templates
--- TableRow s r  <-> r is one of the rows about the bytes s themselves, 2 to 10, and 2 only where they are too long
+-- TableRow fam s r <-> r is one of the rows about the bytes s themselves, and 2 only where they are too long
 -- template-row, element-row, element-not-nine == what the refusals of a whole input are; that of an element template by itself is never 9
 -- read-cases, element-cases == a whole input is refused by a number above 0, or read to its end
 use mathlib.Core.Path.{_≡_, refl, subst}
-use mathlib.Core.Bool.{Bool, true, false, _&&_, cond}
+use mathlib.Core.Bool.{Bool, true, false, _&&_, _||_, cond}
+use mathlib.Core.Logic.{inl, inr}
 use mathlib.Core.List.{List, [], _∷_}
 use Prim.Native.Nat.{ℕ, zero, suc, _+_, _<_, _≤_}
 use native.Mathlib.Omega.{arith}
 use borrow.Author.Tests.{ltb-true}
 use lib.Dec.{ltb, eqb}
 use lib.Signed.{ltZ}
+use lib.Ieee.{isNan, lt}
 use lib.ListN.{length, getD, drop}
 use Rattle.integers.specs.Integer.{intAt}
+use Rattle.floats.specs.Bytes.{floatAt}
+use Rattle.floats.specs.Leaves.{oneFault, boundsFault as rangeFault}
+use Rattle.floats.specs.declared.Leaf.{Leaf as FloatLeaf}
+use Rattle.format.specs.declared.Family.{Family}
 use Rattle.grammar.specs.Element.{Elem, Elems, leaf}
 use Rattle.grammar.specs.Template.{Star, noStar, star, Group, grouped, Item, one, permutation, recordOf, setOf, superset, subset, Length, anyLength, between, Template, template, membersOfGroup, membersOfItem}
 use Rattle.format.specs.Bounds.{badBounds}
 use Rattle.grammar.specs.Record.{Head, fault, leafHere, group, kindOf, outside, countFault, boundsFault, faultOr, groupHead, head}
-use Rattle.grammar.specs.Leaf.{Leaf, single, range, any, singleHead, rangeHead, leafHead}
+use Rattle.grammar.specs.Leaf.{single, range, any, singleHead, rangeHead, leafHead}
+use Rattle.grammar.specs.FloatLeaf.{boundsAt, oneHead, floatRangeHead, floatHead}
+use Rattle.grammar.specs.Family.{LeafOf, leavesOf, RowOf}
 use Rattle.grammar.specs.Read.{Read, refuse, got, orRefuse, refuseOr, ended, limited, mapRead}
 use Rattle.grammar.specs.Reading.{Counted, counted, uncounted, putFirst, thenMore, many, closed, tooDeep, opened, elem, outermost, readElement}
 use Rattle.grammar.specs.Whole.{asSpares, hasStar, starHere, fewest, clashes, numbered, putMember, thenMembers, thenStar, putItem, thenItems, member, members, permutationHere, item, items, contents, bodyHere, templateHere, readTemplate}
 
-pub record Row (Q : ℕ → Type 0) : Type 0 where
+abbrev NanRow : Family → (ℕ → Type 0) → Type 0
+NanRow Family.Integers Q = Unit {0}
+NanRow Family.Floats Q = Q 14
+
+pub record Row (fam : Family) (Q : ℕ → Type 0) : Type 0 where
   pub r3 : Q 3
   pub r4 : Q 4
   pub r5 : Q 5
   pub r6 : Q 6
   pub r7 : Q 7
   pub r8 : Q 8
+  pub r14 : NanRow fam Q
 
 abbrev pub Refusals : {A : Type 0} → (ℕ → Type 0) → Read A → Type 0
 Refusals Q (refuse r) = Q r
@@ -42,7 +55,7 @@ Faults Q (leafHere l s) = Unit {0}
 Faults Q (group c n s) = Unit {0}
 
 module _ (Q : ℕ → Type 0) where
-  fault-either : (b : Bool) (g h : Head Leaf) → Faults Q g → Faults Q h → Faults Q (cond b g h)
+  fault-either : {L : Type 0} (b : Bool) (g h : Head L) → Faults Q g → Faults Q h → Faults Q (cond b g h)
   fault-either true g h p q = p
   fault-either false g h p q = q
 
@@ -60,7 +73,35 @@ module _ (Q : ℕ → Type 0) where
   uncounted-numbers (refuse r) p = p
   uncounted-numbers (got (counted a k) s) p = tt
 
-  module _ (row : Row Q) where
+  integer-numbers : Row Family.Integers Q → (s : List ℕ) → Faults Q (leafHead s)
+  unfolding leafHead singleHead rangeHead
+  integer-numbers row s =
+      fault-either (eqb (kindOf s) 1) _ _ (fault-either (ltb (length s) 5) (fault 3) (leafHere (single (intAt s 1)) (drop 5 s)) (row .r3) tt)
+      (fault-either (eqb (kindOf s) 2) _ _
+      (fault-either (ltb (length s) 9) (fault 3) _ (row .r3) (fault-either (ltZ (intAt s 5) (intAt s 1)) (fault 6) (leafHere (range (intAt s 1) (intAt s 5)) (drop 9 s)) (row .r6) tt))
+      (fault-either (eqb (kindOf s) 3) (leafHere any (drop 1 s)) (fault 4) tt (row .r4)))
+
+  float-numbers : Row Family.Floats Q → (s : List ℕ) → Faults Q (floatHead s)
+  unfolding floatHead oneHead floatRangeHead oneFault rangeFault
+  float-numbers row s =
+      fault-either (eqb (kindOf s) 6) _ _ (fault-either (ltb (length s) 9) (fault 3) _ (row .r3) (one (isNan (floatAt s 1))))
+      (fault-either (eqb (kindOf s) 7) _ _ (fault-either (ltb (length s) 17) (fault 3) _ (row .r3) (two (isNan (floatAt s 1) || isNan (floatAt s 9)) (lt (floatAt s 9) (floatAt s 1))))
+      (fault-either (eqb (kindOf s) 3) (leafHere FloatLeaf.Any (drop 1 s)) (fault 4) tt (row .r4)))
+    where
+      one : (b : Bool) → Faults Q (faultOr (cond b 14 0) (leafHere (FloatLeaf.Float (floatAt s 1)) (drop 9 s)))
+      one true = row .r14
+      one false = tt
+
+      two : (b o : Bool) → Faults Q (faultOr (cond b 14 (cond o 6 0)) (leafHere (FloatLeaf.Range (boundsAt s 1)) (drop 17 s)))
+      two true o = row .r14
+      two false true = row .r6
+      two false false = tt
+
+  by-family : (fam : Family) → Row fam Q → (s : List ℕ) → Faults Q (leavesOf fam s)
+  by-family Family.Integers row s = integer-numbers row s
+  by-family Family.Floats row s = float-numbers row s
+
+  module _ (fam : Family) (row : Row fam Q) where
     count-numbers : (lo hi : ℕ) (s : List ℕ) {A : Type 0} (o : Read A) → Refusals Q o → Refusals Q (refuseOr (countFault lo hi s) o)
     unfolding countFault
     count-numbers lo hi s o p = go (ltb (length s) 2) (outside lo hi (getD s 1 0))
@@ -81,65 +122,60 @@ module _ (Q : ℕ → Type 0) where
 
     -- ---- one record
 
-    group-numbers : (c : Bool) (s : List ℕ) → Faults {L = Leaf} Q (groupHead c s)
+    group-numbers : (c : Bool) (s : List ℕ) → Faults {L = LeafOf fam} Q (groupHead c s)
     unfolding groupHead countFault
     group-numbers c s = go (ltb (length s) 2) (outside 1 64 (getD s 1 0))
       where
-        go : (a b : Bool) → Faults {L = Leaf} Q (faultOr (cond a 3 (cond b 5 0)) (group c (getD s 1 0) (drop 2 s)))
+        go : (a b : Bool) → Faults {L = LeafOf fam} Q (faultOr (cond a 3 (cond b 5 0)) (group c (getD s 1 0) (drop 2 s)))
         go true b = row .r3
         go false true = row .r5
         go false false = tt
 
-    leaf-numbers : (s : List ℕ) → Faults Q (leafHead s)
-    unfolding leafHead singleHead rangeHead
-    leaf-numbers s =
-        fault-either (eqb (kindOf s) 1) _ _ (fault-either (ltb (length s) 5) (fault 3) (leafHere (single (intAt s 1)) (drop 5 s)) (row .r3) tt)
-        (fault-either (eqb (kindOf s) 2) _ _
-        (fault-either (ltb (length s) 9) (fault 3) _ (row .r3) (fault-either (ltZ (intAt s 5) (intAt s 1)) (fault 6) (leafHere (range (intAt s 1) (intAt s 5)) (drop 9 s)) (row .r6) tt))
-        (fault-either (eqb (kindOf s) 3) (leafHere any (drop 1 s)) (fault 4) tt (row .r4)))
+    leaf-numbers : (s : List ℕ) → Faults Q (leavesOf fam s)
+    leaf-numbers s = by-family fam row s
 
-    head-numbers : (s : List ℕ) → Faults Q (head leafHead s)
+    head-numbers : (s : List ℕ) → Faults Q (head (leavesOf fam) s)
     unfolding head
     head-numbers s =
         fault-either (eqb (length s) 0) (fault 3) _ (row .r3)
         (fault-either (eqb (kindOf s) 4) (groupHead false s) _ (group-numbers false s)
-        (fault-either (eqb (kindOf s) 5) (groupHead true s) (leafHead s) (group-numbers true s) (leaf-numbers s)))
+        (fault-either (eqb (kindOf s) 5) (groupHead true s) ((leavesOf fam) s) (group-numbers true s) (leaf-numbers s)))
 
     -- ---- element templates
 
-    put-numbers : (e : Elem Leaf) (o : Read (Counted (Elems Leaf))) → Refusals Q o → Refusals Q (putFirst e o)
+    put-numbers : (e : Elem (LeafOf fam)) (o : Read (Counted (Elems (LeafOf fam)))) → Refusals Q o → Refusals Q (putFirst e o)
     unfolding putFirst
     put-numbers e (refuse r) n = n
     put-numbers e (got (counted es k) s) n = tt
 
-    many-numbers : (p : ℕ → List ℕ → Read (Counted (Elem Leaf))) → ((k : ℕ) (s : List ℕ) → Refusals Q (p k s)) → (n k : ℕ) (s : List ℕ) → Refusals Q (many p n k s)
+    many-numbers : (p : ℕ → List ℕ → Read (Counted (Elem (LeafOf fam)))) → ((k : ℕ) (s : List ℕ) → Refusals Q (p k s)) → (n k : ℕ) (s : List ℕ) → Refusals Q (many p n k s)
     unfolding many thenMore
     many-numbers p h zero k s = tt
     many-numbers p h (suc n) k s = go (p k s) (h k s) (λ j r. many-numbers p h n j r)
       where
-        go : (o : Read (Counted (Elem Leaf))) → Refusals Q o → ((j : ℕ) (r : List ℕ) → Refusals Q (many p n j r)) → Refusals Q (thenMore o (many p n))
+        go : (o : Read (Counted (Elem (LeafOf fam)))) → Refusals Q o → ((j : ℕ) (r : List ℕ) → Refusals Q (many p n j r)) → Refusals Q (thenMore o (many p n))
         go (refuse r) x y = x
         go (got (counted e j) r) x y = put-numbers e (many p n j r) (y j r)
 
-    pub elem-numbers : (left k : ℕ) (s : List ℕ) → Refusals Q (elem leafHead left k s)
+    pub elem-numbers : (left k : ℕ) (s : List ℕ) → Refusals Q (elem (leavesOf fam) left k s)
     unfolding elem tooDeep opened closed
-    elem-numbers zero k s = go (head leafHead s) (head-numbers s)
+    elem-numbers zero k s = go (head (leavesOf fam) s) (head-numbers s)
       where
-        go : (h : Head Leaf) → Faults Q h → Refusals Q (tooDeep h)
+        go : (h : Head (LeafOf fam)) → Faults Q h → Refusals Q (tooDeep h)
         go (fault r) x = x
         go (leafHere l r) x = row .r7
         go (group c n r) x = row .r7
-    elem-numbers (suc left) k s = go (head leafHead s) (head-numbers s) (many-numbers (elem leafHead left) (λ j r. elem-numbers left j r))
+    elem-numbers (suc left) k s = go (head (leavesOf fam) s) (head-numbers s) (many-numbers (elem (leavesOf fam) left) (λ j r. elem-numbers left j r))
       where
-        close : (c : Bool) (o : Read (Counted (Elems Leaf))) → Refusals Q o → Refusals Q (closed c o)
+        close : (c : Bool) (o : Read (Counted (Elems (LeafOf fam)))) → Refusals Q o → Refusals Q (closed c o)
         close c (refuse r) x = x
         close false (got (counted es j) r) x = tt
         close true (got (counted es j) r) x = tt
 
-        go : (h : Head Leaf) → Faults Q h → ((n j : ℕ) (r : List ℕ) → Refusals Q (many (elem leafHead left) n j r)) → Refusals Q (opened (elem leafHead left) k h)
+        go : (h : Head (LeafOf fam)) → Faults Q h → ((n j : ℕ) (r : List ℕ) → Refusals Q (many (elem (leavesOf fam) left) n j r)) → Refusals Q (opened (elem (leavesOf fam) left) k h)
         go (fault r) x y = x
         go (leafHere l r) x y = read-either (ltb 63 k) (refuse 8) (got (counted (leaf l) (k + 1)) r) (row .r8) tt
-        go (group c n r) x y = close c (many (elem leafHead left) n k r) (y n k r)
+        go (group c n r) x y = close c (many (elem (leavesOf fam) left) n k r) (y n k r)
 
     -- ---- templates
 
@@ -147,57 +183,57 @@ module _ (Q : ℕ → Type 0) where
     unfolding starHere
     star-numbers seen s = bounds-numbers s _ (read-either seen (refuse 8) (got (star (getD s 1 0) (getD s 2 0)) (drop 3 s)) (row .r8) tt)
 
-    member-numbers : (m : ℕ) (s : List ℕ) → Refusals Q (member leafHead m s)
+    member-numbers : (m : ℕ) (s : List ℕ) → Refusals Q (member (leavesOf fam) m s)
     unfolding member numbered
-    member-numbers m s = go (head leafHead s) (head-numbers s)
+    member-numbers m s = go (head (leavesOf fam) s) (head-numbers s)
       where
-        inner : Refusals Q (uncounted (outermost leafHead s))
-        inner = uncounted-numbers (outermost leafHead s) (elem-numbers 8 0 s)
+        inner : Refusals Q (uncounted (outermost (leavesOf fam) s))
+        inner = uncounted-numbers (outermost (leavesOf fam) s) (elem-numbers 8 0 s)
 
-        go : (h : Head Leaf) → Faults Q h → Refusals Q (numbered m h (uncounted (outermost leafHead s)))
+        go : (h : Head (LeafOf fam)) → Faults Q h → Refusals Q (numbered m h (uncounted (outermost (leavesOf fam) s)))
         go (fault r) x = x
         go (leafHere l r) x = read-either (ltb 31 m) (refuse 8) _ (row .r8) inner
         go (group c n r) x = read-either (ltb 31 m) (refuse 8) _ (row .r8) inner
 
-    members-numbers : (stars : Bool) (n m : ℕ) (st : Star) (s : List ℕ) → Refusals Q (members leafHead stars n m st s)
+    members-numbers : (stars : Bool) (n m : ℕ) (st : Star) (s : List ℕ) → Refusals Q (members (leavesOf fam) stars n m st s)
     unfolding members thenStar thenMembers putMember
     members-numbers stars zero m st s = tt
     members-numbers stars (suc n) m st s =
-        read-either (stars && eqb (kindOf s) 32) _ _ (by-star (starHere (hasStar st) s) (star-numbers (hasStar st) s) (λ st′ s′. members-numbers stars n m st′ s′)) (by-member (member leafHead m s) (member-numbers m s) (λ s′. members-numbers stars n (m + 1) st s′))
+        read-either (stars && eqb (kindOf s) 32) _ _ (by-star (starHere (hasStar st) s) (star-numbers (hasStar st) s) (λ st′ s′. members-numbers stars n m st′ s′)) (by-member (member (leavesOf fam) m s) (member-numbers m s) (λ s′. members-numbers stars n (m + 1) st s′))
       where
-        put : (e : Elem Leaf) (o : Read (Group Leaf)) → Refusals Q o → Refusals Q (putMember e o)
+        put : (e : Elem (LeafOf fam)) (o : Read (Group (LeafOf fam))) → Refusals Q o → Refusals Q (putMember e o)
         put e (refuse r) x = x
         put e (got (grouped es st′) s′) x = tt
 
-        by-star : (o : Read Star) → Refusals Q o → ((st′ : Star) (s′ : List ℕ) → Refusals Q (members leafHead stars n m st′ s′)) → Refusals Q (thenStar o (members leafHead stars n m))
+        by-star : (o : Read Star) → Refusals Q o → ((st′ : Star) (s′ : List ℕ) → Refusals Q (members (leavesOf fam) stars n m st′ s′)) → Refusals Q (thenStar o (members (leavesOf fam) stars n m))
         by-star (refuse r) x h = x
         by-star (got st′ s′) x h = h st′ s′
 
-        by-member : (o : Read (Elem Leaf)) → Refusals Q o → ((s′ : List ℕ) → Refusals Q (members leafHead stars n (m + 1) st s′)) → Refusals Q (thenMembers o (members leafHead stars n (m + 1) st))
+        by-member : (o : Read (Elem (LeafOf fam))) → Refusals Q o → ((s′ : List ℕ) → Refusals Q (members (leavesOf fam) stars n (m + 1) st s′)) → Refusals Q (thenMembers o (members (leavesOf fam) stars n (m + 1) st))
         by-member (refuse r) x h = x
-        by-member (got e s′) x h = put e (members leafHead stars n (m + 1) st s′) (h s′)
+        by-member (got e s′) x h = put e (members (leavesOf fam) stars n (m + 1) st s′) (h s′)
 
-    item-numbers : (m : ℕ) (s : List ℕ) → Refusals Q (item leafHead m s)
+    item-numbers : (m : ℕ) (s : List ℕ) → Refusals Q (item (leavesOf fam) m s)
     unfolding item permutationHere
     item-numbers m s =
         read-either (eqb (kindOf s) 32) _ _ (mapped asSpares _ (star-numbers false s))
         (read-either (eqb (kindOf s) 33) _ _ (count-numbers 1 32 s _ (mapped permutation _ (members-numbers true (getD s 1 0) m noStar (drop 2 s))))
         (mapped one _ (member-numbers m s)))
 
-    items-numbers : (n m : ℕ) (s : List ℕ) → Refusals Q (items leafHead n m s)
+    items-numbers : (n m : ℕ) (s : List ℕ) → Refusals Q (items (leavesOf fam) n m s)
     unfolding items thenItems putItem
     items-numbers zero m s = tt
-    items-numbers (suc n) m s = by-item (item leafHead m s) (item-numbers m s) (λ k s′. items-numbers n k s′)
+    items-numbers (suc n) m s = by-item (item (leavesOf fam) m s) (item-numbers m s) (λ k s′. items-numbers n k s′)
       where
-        put : (i : Item Leaf) (o : Read (List (Item Leaf))) → Refusals Q o → Refusals Q (putItem i o)
+        put : (i : Item (LeafOf fam)) (o : Read (List (Item (LeafOf fam)))) → Refusals Q o → Refusals Q (putItem i o)
         put i (refuse r) x = x
         put i (got is t) x = tt
 
-        by-item : (o : Read (Item Leaf)) → Refusals Q o → ((k : ℕ) (s′ : List ℕ) → Refusals Q (items leafHead n k s′)) → Refusals Q (thenItems m o (items leafHead n))
+        by-item : (o : Read (Item (LeafOf fam))) → Refusals Q o → ((k : ℕ) (s′ : List ℕ) → Refusals Q (items (leavesOf fam) n k s′)) → Refusals Q (thenItems m o (items (leavesOf fam) n))
         by-item (refuse r) x h = x
-        by-item (got i s′) x h = put i (items leafHead n (m + length (membersOfItem i)) s′) (h (m + length (membersOfItem i)) s′)
+        by-item (got i s′) x h = put i (items (leavesOf fam) n (m + length (membersOfItem i)) s′) (h (m + length (membersOfItem i)) s′)
 
-    contents-numbers : (kind n : ℕ) (s : List ℕ) → Refusals Q (contents leafHead kind n s)
+    contents-numbers : (kind n : ℕ) (s : List ℕ) → Refusals Q (contents (leavesOf fam) kind n s)
     unfolding contents
     contents-numbers kind n s =
         read-either (eqb kind 16) _ _ (mapped recordOf _ (items-numbers n 0 s))
@@ -205,7 +241,7 @@ module _ (Q : ℕ → Type 0) where
         (read-either (eqb kind 18) _ _ (mapped (λ g. superset (membersOfGroup g)) _ (members-numbers false n 0 noStar s)) (mapped (λ g. subset (membersOfGroup g)) _ (members-numbers false n 0 noStar s))))
 
     module _ (r9 : Q 9) where
-      body-numbers : (a : Length) (s : List ℕ) → Refusals Q (bodyHere leafHead a s)
+      body-numbers : (a : Length) (s : List ℕ) → Refusals Q (bodyHere (leavesOf fam) a s)
       unfolding bodyHere
       body-numbers a s =
           read-either (eqb (length s) 0) (refuse 3) _ (row .r3)
@@ -214,7 +250,7 @@ module _ (Q : ℕ → Type 0) where
           (read-either (clashes a (kindOf s) (getD s 1 0)) (refuse 9) _ r9
           (mapped (template a) _ (contents-numbers (kindOf s) (getD s 1 0) (drop 2 s))))))
 
-      whole-numbers : (s : List ℕ) → Refusals Q (templateHere leafHead s)
+      whole-numbers : (s : List ℕ) → Refusals Q (templateHere (leavesOf fam) s)
       unfolding templateHere
       whole-numbers s = read-either (eqb (kindOf s) 48) _ _ (bounds-numbers s _ (body-numbers (between (getD s 1 0) (getD s 2 0)) (drop 3 s))) (body-numbers anyLength s)
 
@@ -234,44 +270,54 @@ refused-so : {A : Type 0} (Q : ℕ → Type 0) (o : Read A) (r : ℕ) → Refusa
 refused-so Q o r h e = subst (λ u. Refusals Q u) e h
 
 -- the rows about the bytes of an input themselves; 2 only where it is too long
-pub record TableRow (s : List ℕ) (r : ℕ) : Type 0 where
-  pub least : 2 ≤ r
-  pub most : r ≤ 10
+pub record TableRow (fam : Family) (s : List ℕ) (r : ℕ) : Type 0 where
+  pub row : RowOf fam r
   pub long : r ≡ 2 → 4096 < length s
 
-table-row : (s : List ℕ) (r : ℕ) → 3 ≤ r → r ≤ 10 → TableRow s r
-table-row s r p q = record { least = omega arith; most = q; long = λ e. absurd (omega arith) }
+row-of : (fam : Family) (r : ℕ) → 2 ≤ r → r ≤ 10 → RowOf fam r
+row-of Family.Integers r p q = (p, q)
+row-of Family.Floats r p q = inl (p, q)
 
-table-rows : (s : List ℕ) → Row (TableRow s)
-table-rows s = record {
-  r3 = table-row s 3 (omega arith) (omega arith);
-  r4 = table-row s 4 (omega arith) (omega arith);
-  r5 = table-row s 5 (omega arith) (omega arith);
-  r6 = table-row s 6 (omega arith) (omega arith);
-  r7 = table-row s 7 (omega arith) (omega arith);
-  r8 = table-row s 8 (omega arith) (omega arith);
+table-row : (fam : Family) (s : List ℕ) (r : ℕ) → 3 ≤ r → r ≤ 10 → TableRow fam s r
+table-row fam s r p q = record { row = row-of fam r (omega arith) q; long = λ e. absurd (omega arith) }
+
+nan-row : (fam : Family) (s : List ℕ) → NanRow fam (TableRow fam s)
+nan-row Family.Integers s = tt
+nan-row Family.Floats s = record { row = inr refl; long = λ e. absurd (omega arith) }
+
+table-rows : (fam : Family) (s : List ℕ) → Row fam (TableRow fam s)
+table-rows fam s = record {
+  r3 = table-row fam s 3 (omega arith) (omega arith);
+  r4 = table-row fam s 4 (omega arith) (omega arith);
+  r5 = table-row fam s 5 (omega arith) (omega arith);
+  r6 = table-row fam s 6 (omega arith) (omega arith);
+  r7 = table-row fam s 7 (omega arith) (omega arith);
+  r8 = table-row fam s 8 (omega arith) (omega arith);
+  r14 = nan-row fam s;
 }
 
-too-long : (s : List ℕ) → 4096 < length s → TableRow s 2
-too-long s h = record { least = omega arith; most = omega arith; long = λ e. h }
+too-long : (fam : Family) (s : List ℕ) → 4096 < length s → TableRow fam s 2
+too-long fam s h = record { row = row-of fam 2 (omega arith) (omega arith); long = λ e. h }
 
-pub template-row : (s : List ℕ) (r : ℕ) → readTemplate leafHead s ≡ refuse r → TableRow s r
+pub template-row : (fam : Family) (s : List ℕ) (r : ℕ) → readTemplate (leavesOf fam) s ≡ refuse r → TableRow fam s r
 unfolding readTemplate
-template-row s r e =
-    refused-so (TableRow s) (readTemplate leafHead s) r
-    (whole (TableRow s) s (templateHere leafHead s) (too-long s) (table-row s 10 (omega arith) (omega arith))
-    (whole-numbers (TableRow s) (table-rows s) (table-row s 9 (omega arith) (omega arith)) s)) e
+template-row fam s r e =
+    refused-so (TableRow fam s) (readTemplate (leavesOf fam) s) r
+    (whole (TableRow fam s) s (templateHere (leavesOf fam) s) (too-long fam s) (table-row fam s 10 (omega arith) (omega arith))
+    (whole-numbers (TableRow fam s) fam (table-rows fam s) (table-row fam s 9 (omega arith) (omega arith)) s)) e
 
-element-numbers : (Q : ℕ → Type 0) (s : List ℕ) → Row Q → (4096 < length s → Q 2) → Q 10 → Refusals Q (readElement leafHead s)
+element-numbers : (Q : ℕ → Type 0) (s : List ℕ) → Row Family.Integers Q → (4096 < length s → Q 2) → Q 10 → Refusals Q (readElement leafHead s)
 unfolding readElement
-element-numbers Q s row p2 p10 = whole Q s (uncounted (outermost leafHead s)) p2 p10 (uncounted-numbers Q (outermost leafHead s) (elem-numbers Q row 8 0 s))
+element-numbers Q s row p2 p10 = whole Q s (uncounted (outermost leafHead s)) p2 p10 (uncounted-numbers Q (outermost leafHead s) (elem-numbers Q Family.Integers row 8 0 s))
 
-pub element-row : (s : List ℕ) (r : ℕ) → readElement leafHead s ≡ refuse r → TableRow s r
-element-row s r e = refused-so (TableRow s) (readElement leafHead s) r (element-numbers (TableRow s) s (table-rows s) (too-long s) (table-row s 10 (omega arith) (omega arith))) e
+pub element-row : (s : List ℕ) (r : ℕ) → readElement leafHead s ≡ refuse r → TableRow Family.Integers s r
+element-row s r e =
+    refused-so (TableRow Family.Integers s) (readElement leafHead s) r
+    (element-numbers (TableRow Family.Integers s) s (table-rows Family.Integers s) (too-long Family.Integers s) (table-row Family.Integers s 10 (omega arith) (omega arith))) e
 
 -- row 9 is found only at a body: no record of an element template has it
-not-nine : Row (λ r. r ≡ 9 → ⊥)
-not-nine = record { r3 = λ e. omega arith; r4 = λ e. omega arith; r5 = λ e. omega arith; r6 = λ e. omega arith; r7 = λ e. omega arith; r8 = λ e. omega arith }
+not-nine : Row Family.Integers (λ r. r ≡ 9 → ⊥)
+not-nine = record { r3 = λ e. omega arith; r4 = λ e. omega arith; r5 = λ e. omega arith; r6 = λ e. omega arith; r7 = λ e. omega arith; r8 = λ e. omega arith; r14 = tt }
 
 pub element-not-nine : (s : List ℕ) (r : ℕ) → readElement leafHead s ≡ refuse r → r ≡ 9 → ⊥
 element-not-nine s r e =
@@ -292,13 +338,17 @@ cases-of s o h = go (ltb 4096 (length s)) o h
     go false (got a []) h = isRead a refl
     go false (got a (x ∷ t)) h = isRefused 10 refl (omega arith)
 
-above-zero : Row (λ r. 0 < r)
-above-zero = record { r3 = omega arith; r4 = omega arith; r5 = omega arith; r6 = omega arith; r7 = omega arith; r8 = omega arith }
+nan-above : (fam : Family) → NanRow fam (λ r. 0 < r)
+nan-above Family.Integers = tt
+nan-above Family.Floats = omega arith
 
-pub read-cases : (s : List ℕ) → Cases (readTemplate leafHead s)
+above-zero : (fam : Family) → Row fam (λ r. 0 < r)
+above-zero fam = record { r3 = omega arith; r4 = omega arith; r5 = omega arith; r6 = omega arith; r7 = omega arith; r8 = omega arith; r14 = nan-above fam }
+
+pub read-cases : (fam : Family) (s : List ℕ) → Cases (readTemplate (leavesOf fam) s)
 unfolding readTemplate
-read-cases s = cases-of s (templateHere leafHead s) (whole-numbers (λ r. 0 < r) above-zero (omega arith) s)
+read-cases fam s = cases-of s (templateHere (leavesOf fam) s) (whole-numbers (λ r. 0 < r) fam (above-zero fam) (omega arith) s)
 
 pub element-cases : (s : List ℕ) → Cases (readElement leafHead s)
 unfolding readElement
-element-cases s = cases-of s (uncounted (outermost leafHead s)) (uncounted-numbers (λ r. 0 < r) (outermost leafHead s) (elem-numbers (λ r. 0 < r) above-zero 8 0 s))
+element-cases s = cases-of s (uncounted (outermost leafHead s)) (uncounted-numbers (λ r. 0 < r) (outermost leafHead s) (elem-numbers (λ r. 0 < r) Family.Integers (above-zero Family.Integers) 8 0 s))

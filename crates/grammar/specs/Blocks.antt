@@ -6,8 +6,8 @@
 -- blocksOf b        == a body; a superset allows any number of spare elements, a subset is one block of its members
 -- bodyKind b          == the kind byte of the body b
 -- lowOf a, highOf a == the least and the greatest length that the length attribute allows; 0 and 255 without one
--- StandsAt t p e   <-> the element template e stands at the place p of the bytes t
--- Standing t es ps <-> each of es stands at its place of ps
+-- StandsAt f t p e   <-> the element template e of the family f stands at the place p of the bytes t
+-- Standing f t es ps <-> each of es stands at its place of ps
 -- Assumes nothing: these are definitions.
 use mathlib.Core.Path.{_≡_}
 use mathlib.Core.List.{List, [], _∷_}
@@ -15,7 +15,8 @@ use Prim.Native.Nat.{ℕ, _+_, _≤_}
 use lib.ListN.{length, drop}
 use Rattle.grammar.specs.Element.{Elem}
 use Rattle.grammar.specs.Template.{Star, noStar, star, Group, grouped, Item, one, spares, permutation, Body, recordOf, setOf, superset, subset, Length, anyLength, between, membersOfItem}
-use Rattle.grammar.specs.Leaf.{Leaf, leafHead}
+use Rattle.format.specs.declared.Family.{Family}
+use Rattle.grammar.specs.Family.{LeafOf, leavesOf}
 use Rattle.grammar.specs.Read.{got}
 use Rattle.grammar.specs.Reading.{counted, outermost}
 use Rattle.blocks.specs.declared.Block.{Block}
@@ -61,14 +62,14 @@ abbrev pub highOf : Length → ℕ
 highOf anyLength = 255
 highOf (between min max) = max
 
-pub record StandsAt (t : List ℕ) (p : ℕ) (e : Elem Leaf) : Type 0 where
+pub record StandsAt (f : Family) (t : List ℕ) (p : ℕ) (e : Elem (LeafOf f)) : Type 0 where
   pub inside : p ≤ length t
   pub leaves : ℕ
   pub rest : List ℕ
-  pub reads : outermost leafHead (drop p t) ≡ got (counted e leaves) rest
+  pub reads : outermost (leavesOf f) (drop p t) ≡ got (counted e leaves) rest
 
-unfoldable pub Standing : List ℕ → List (Elem Leaf) → List ℕ → Type 0
-Standing t [] [] = Unit {0}
-Standing t [] (p ∷ ps) = ⊥
-Standing t (e ∷ es) [] = ⊥
-Standing t (e ∷ es) (p ∷ ps) = StandsAt t p e × Standing t es ps
+unfoldable pub Standing : (f : Family) → List ℕ → List (Elem (LeafOf f)) → List ℕ → Type 0
+Standing f t [] [] = Unit {0}
+Standing f t [] (p ∷ ps) = ⊥
+Standing f t (e ∷ es) [] = ⊥
+Standing f t (e ∷ es) (p ∷ ps) = StandsAt f t p e × Standing f t es ps

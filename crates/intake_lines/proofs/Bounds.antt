@@ -5,6 +5,7 @@ use mathlib.Core.List.{List}
 use Prim.Native.Nat.{ℕ, _+_, _-_, _≤_}
 use native.Mathlib.Omega.{arith}
 use lib.ListN.{length, take, drop}
+use Rattle.format.specs.declared.Family.{Family}
 use Rattle.facts.proofs.Cases.{clash}
 use Rattle.lines.proofs.Lines.{wrote-inside}
 use Rattle.plans.specs.Plans.{PlanOf}
@@ -21,7 +22,7 @@ module _ (s before after : List ℕ) (wrote next : ℕ) (more : Bool) (p : Plan)
   headed-to (refused r q w n m e) go = absurd (clash go m)
   headed-to (found q f i w m pl) go = i
 
-  pub headed-plan : Headed s before after wrote next more p → more ≡ true → PlanOf (take (next - 3) (drop 3 s)) p
+  pub headed-plan : Headed s before after wrote next more p → more ≡ true → PlanOf Family.Integers (take (next - 3) (drop 3 s)) p
   headed-plan (refused r q w n m e) go = absurd (clash go m)
   headed-plan (found q f i w m pl) go = pl
 

@@ -7,6 +7,7 @@ use native.Mathlib.Omega.{arith}
 use native.Mathlib.Nat.{pos-of-ne-zero}
 use lib.ListN.{length, take, drop}
 use borrow.Author.Tests.{lt-ltb, le-ltb}
+use Rattle.format.specs.declared.Family.{Family}
 use Rattle.grammar.specs.Leaf.{leafHead}
 use Rattle.grammar.specs.Read.{Read, got, refuseOr, verdict}
 use Rattle.grammar.specs.Whole.{readTemplate}
@@ -37,7 +38,7 @@ module _ (s : List ℕ) (p : Plan) where
     header-missing none end e h said =
         rejected 3 (rw (le-ltb 65536 (length s) fits, ← known, none, lt-ltb (length s) (afterTemplate s) (omega arith))) (omega arith) said
 
-    pub header-planned : r ≡ 0 → (end : ℕ) → end ≡ afterTemplate s → end ≤ length s → PlanOf (take (end - 3) (drop 3 s)) p → InputPlan s p
+    pub header-planned : r ≡ 0 → (end : ℕ) → end ≡ afterTemplate s → end ≤ length s → PlanOf Family.Integers (take (end - 3) (drop 3 s)) p → InputPlan s p
     unfolding reached verdict
     header-planned none end e h plan = go plan
       where
@@ -50,11 +51,11 @@ module _ (s : List ℕ) (p : Plan) where
         here : reached s ≡ refuseOr (verdict (readTemplate leafHead (take (end - 3) (drop 3 s)))) whole
         here = rw (le-ltb 65536 (length s) fits, ← known, none, le-ltb (length s) (afterTemplate s) (omega arith), size)
 
-        go : PlanOf (take (end - 3) (drop 3 s)) p → InputPlan s p
+        go : PlanOf Family.Integers (take (end - 3) (drop 3 s)) p → InputPlan s p
         go (refusedPlan number q l said) = rejected number (here ∙ ap (λ o. refuseOr (verdict o) whole) q ∙ refuse-is number whole (λ z. omega arith)) l said
         go (aPlan a b q z w) =
             accepted (here ∙ ap (λ o. refuseOr (verdict o) whole) q) z (omega arith)
-            (subst (λ (n : ℕ). PlanOf (take n (drop 3 s)) p) size plan)
+            (subst (λ (n : ℕ). PlanOf Family.Integers (take n (drop 3 s)) p) size plan)
 
 module _ (s : List ℕ) (p : Plan) where
   pub headed-refused : (before after : List ℕ) (wrote : ℕ) → InputPlan s p → (p .number ≡ 0 → ⊥) → Wrote (line 0 (p .number ∷ 0 ∷ [])) before after wrote → Headed s before after wrote 0 false p
@@ -72,4 +73,4 @@ module _ (s : List ℕ) (p : Plan) where
   headed-found o end (accepted q z f plan) none e =
       let size : templateSize s ≡ end - 3 = omega arith in
       found (q ∙ ap (λ (n : ℕ). got (take n (drop 3 s)) (drop (afterTemplate s) s)) size ∙ ap (λ (n : ℕ). got (take (end - 3) (drop 3 s)) (drop n s)) (sym e)) (omega arith) (omega arith) (record { bytes = refl; count = refl }) refl
-      (subst (λ (n : ℕ). PlanOf (take n (drop 3 s)) p) size plan)
+      (subst (λ (n : ℕ). PlanOf Family.Integers (take n (drop 3 s)) p) size plan)

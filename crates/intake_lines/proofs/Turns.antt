@@ -7,6 +7,7 @@ use native.Mathlib.Omega.{arith}
 use lib.ListN.{length, take, drop, length-drop}
 use lib.IntN.{ℤ}
 use borrow.Author.Tests.{eq-eqb, ne-eqb}
+use Rattle.format.specs.declared.Family.{Family}
 use Rattle.matching.specs.Answer.{given, matchAnswer}
 use Rattle.lines.specs.Line.{line}
 use Rattle.lines.specs.Contract.{Wrote}
@@ -22,21 +23,21 @@ as-wrote : (l l′ before after : List ℕ) (n : ℕ) → l′ ≡ l → Wrote l
 as-wrote l l′ before after n e w = rw e w
 
 module _ (t : List ℕ) (k : ℕ) (xs : List ℤ) (room : List ℕ) where
-  line-matched : (a : ℕ) → given a room ≡ matchAnswer t xs emptyRoom → a ≡ 0 → listLine t k xs ≡ line k (0 ∷ length xs ∷ take (length xs) room)
+  line-matched : (a : ℕ) → given a room ≡ matchAnswer Family.Integers t xs emptyRoom → a ≡ 0 → listLine t k xs ≡ line k (0 ∷ length xs ∷ take (length xs) room)
   unfolding listLine answered
   line-matched zero learnt z = ap (answered k (length xs)) (sym learnt)
   line-matched (suc a) learnt z = absurd (omega arith)
 
-  line-other : (a : ℕ) → given a room ≡ matchAnswer t xs emptyRoom → (a ≡ 0 → ⊥) → listLine t k xs ≡ line k (a ∷ length xs ∷ [])
+  line-other : (a : ℕ) → given a room ≡ matchAnswer Family.Integers t xs emptyRoom → (a ≡ 0 → ⊥) → listLine t k xs ≡ line k (a ∷ length xs ∷ [])
   unfolding listLine answered
   line-other zero learnt bad = absurd (bad refl)
   line-other (suc a) learnt bad = ap (answered k (length xs)) (sym learnt)
 
-  pub wrote-matched : (a : ℕ) → given a room ≡ matchAnswer t xs emptyRoom → a ≡ 0 → (before after : List ℕ) (n : ℕ)
+  pub wrote-matched : (a : ℕ) → given a room ≡ matchAnswer Family.Integers t xs emptyRoom → a ≡ 0 → (before after : List ℕ) (n : ℕ)
       → Wrote (line k (0 ∷ length xs ∷ take (length xs) room)) before after n → Wrote (listLine t k xs) before after n
   wrote-matched a learnt z before after n w = as-wrote _ _ before after n (line-matched a learnt z) w
 
-  pub wrote-other : (a : ℕ) → given a room ≡ matchAnswer t xs emptyRoom → (a ≡ 0 → ⊥) → (before after : List ℕ) (n : ℕ)
+  pub wrote-other : (a : ℕ) → given a room ≡ matchAnswer Family.Integers t xs emptyRoom → (a ≡ 0 → ⊥) → (before after : List ℕ) (n : ℕ)
       → Wrote (line k (a ∷ length xs ∷ [])) before after n → Wrote (listLine t k xs) before after n
   wrote-other a learnt bad before after n w = as-wrote _ _ before after n (line-other a learnt bad) w
 

@@ -9,6 +9,7 @@ use lib.ListN.{take, drop}
 use borrow.Fn.Kinds.{Dens, resT, endedOf}
 use contract.Lifetimes.{Lfts}
 use denote.Triple.Clauses.{AtExit}
+use Rattle.format.specs.declared.Family.{Family}
 use Rattle.grammar.specs.Read.{Read, refuse, got}
 use Rattle.lines.specs.Line.{line}
 use Rattle.lines.proofs.Unique.{same-bytes, same-count}
@@ -60,7 +61,7 @@ module _ (s before after after′ : List ℕ) (wrote wrote′ next next′ : ℕ
           place = at;
           again = m ∙ sym m′;
         },
-        plan-same (take (next - 3) (drop 3 s)) p p′ l (subst (λ (n : ℕ). PlanOf (take (n - 3) (drop 3 s)) p′) (sym at) l′),
+        plan-same Family.Integers (take (next - 3) (drop 3 s)) p p′ l (subst (λ (n : ℕ). PlanOf Family.Integers (take (n - 3) (drop 3 s)) p′) (sym at) l′),
       )
 
 stop-go : (u : Turn) (l l′ s : List ℕ) → u ≡ stop l → u ≡ go l′ s → ⊥

@@ -12,6 +12,7 @@ use mathlib.Core.Bool.{Bool, true, false}
 use mathlib.Core.List.{List, [], _∷_}
 use Prim.Native.Nat.{ℕ, _+_, _-_, _≤_, _<_}
 use lib.ListN.{length, take, drop}
+use Rattle.format.specs.declared.Family.{Family}
 use Rattle.grammar.specs.Read.{refuse, got}
 use Rattle.lines.specs.Line.{line}
 use Rattle.lines.specs.Contract.{Wrote}
@@ -22,12 +23,12 @@ use Rattle.intake_lines.specs.Output.{Turn, stop, go}
 
 pub data InputPlan (s : List ℕ) (p : Plan) : Type 0 where
   rejected : (r : ℕ) → reached s ≡ refuse r → 0 < r → p ≡ noPlan r → InputPlan s p
-  accepted : reached s ≡ got (templateIn s) (drop (afterTemplate s) s) → p .number ≡ 0 → afterTemplate s ≤ length s → PlanOf (templateIn s) p → InputPlan s p
+  accepted : reached s ≡ got (templateIn s) (drop (afterTemplate s) s) → p .number ≡ 0 → afterTemplate s ≤ length s → PlanOf Family.Integers (templateIn s) p → InputPlan s p
 
 pub data Headed (s before after : List ℕ) (wrote next : ℕ) (more : Bool) (p : Plan) : Type 0 where
   refused : (r : ℕ) → reached s ≡ refuse r → Wrote (line 0 (r ∷ 0 ∷ [])) before after wrote → next ≡ 0 → more ≡ false → p ≡ noPlan r
       → Headed s before after wrote next more p
-  found : reached s ≡ got (take (next - 3) (drop 3 s)) (drop next s) → 3 ≤ next → next ≤ length s → Wrote [] before after wrote → more ≡ true → PlanOf (take (next - 3) (drop 3 s)) p
+  found : reached s ≡ got (take (next - 3) (drop 3 s)) (drop next s) → 3 ≤ next → next ≤ length s → Wrote [] before after wrote → more ≡ true → PlanOf Family.Integers (take (next - 3) (drop 3 s)) p
       → Headed s before after wrote next more p
 
 pub record StepFits (at number : ℕ) (input o : List ℕ) : Type 0 where

@@ -18,6 +18,7 @@ use Prim.Native.Nat.{ℕ, zero, suc, _+_}
 use lib.Dec.{eqb}
 use lib.ListN.{length, take, replicate}
 use lib.IntN.{ℤ}
+use Rattle.format.specs.declared.Family.{Family}
 use Rattle.grammar.specs.Read.{Read, refuse, got}
 use Rattle.matching.specs.Answer.{Given, given, matchAnswer}
 use Rattle.lines.specs.Line.{line}
@@ -35,7 +36,7 @@ answered k n (given zero w) = line k (0 ∷ n ∷ take n w)
 answered k n (given (suc r) w) = line k (suc r ∷ n ∷ [])
 
 unfoldable pub listLine : List ℕ → ℕ → List ℤ → List ℕ
-listLine t k xs = answered k (length xs) (matchAnswer t xs emptyRoom)
+listLine t k xs = answered k (length xs) (matchAnswer Family.Integers t xs emptyRoom)
 
 unfoldable pub turned : List ℕ → ℕ → Read (List ℤ) → Turn
 turned t k (refuse r) = stop (line k (r ∷ 0 ∷ []))

@@ -2,10 +2,13 @@
 ghost use Prim.Native.Nat.{_≤_};
 ghost use lib.ListN.{length, drop};
 ghost use Rattle.lines.specs.Contract.{LineFits, Wrote};
+ghost use Rattle.format.specs.declared.Family.{Family};
 ghost use Rattle.plans.specs.Plans.{PlanOf};
 ghost use Rattle.intake_lines.specs.Output.{listLine, turn};
 ghost use Rattle.intake_lines.specs.Contract.{InputPlan, Headed, StepFits, Turned};
+use elements::Sort;
 use format::DONE;
+use format::Family;
 use format::INPUT_MOST;
 use format::MISSING;
 use format::TEMPLATE;
@@ -35,7 +38,10 @@ fn input_plan(input: &[u8]) -> Plan
     if input.len() < end {
         return no_plan(MISSING);
     }
-    plan_of(&input[TEMPLATE_SIZE..end])
+    let sort = Sort {
+        family: Family::Integers,
+    };
+    plan_of(&input[TEMPLATE_SIZE..end], sort)
 }
 
 // How an input begins: how many bytes were written, the place of the first list, whether there is a first turn, and the plan of its template.
@@ -78,11 +84,12 @@ pub struct Progress {
 
 // Puts the line of the list xs, which has this number, in front of the buffer, and says how many bytes it has.
 fn put_answer(template: &[u8], plan: Plan, xs: &[i32], number: u32, out: &mut [u8]) -> usize
-    requires { ⌜ PlanOf (now template) plan × LineFits number (length (now xs)) (now out) ⌝ }
+    requires { ⌜ PlanOf Family.Integers (now template) plan × LineFits number (length (now xs)) (now out) ⌝ }
     ensures { λ r. ⌜ Wrote (listLine (now (template .entry)) number (now (xs .entry))) (now (out .entry)) (now (out .exit)) r ⌝ }
 {
     let mut room = [0u8; 32];
-    let answer = match_planned(template, plan, xs, &mut room);
+    let none = [0.0f64; 1];
+    let answer = match_planned(template, plan, xs, &none[..0], &mut room);
     let n = xs.len();
     if answer == DONE {
         return put_line(out, number, 0, n, &room[..n]);
@@ -100,7 +107,7 @@ pub fn answer_next(
     number: u32,
     out: &mut [u8],
 ) -> Progress
-    requires { ⌜ PlanOf (now template) plan × StepFits at number (now input) (now out) ⌝ }
+    requires { ⌜ PlanOf Family.Integers (now template) plan × StepFits at number (now input) (now out) ⌝ }
     ensures { λ r. ⌜ Turned (turn (now (template .entry)) number (drop at (now (input .entry)))) (now (input .entry)) at (now (out .entry)) (now (out .exit)) (r .wrote) (r .next) (r .more) ⌝ }
 {
     if at == input.len() {

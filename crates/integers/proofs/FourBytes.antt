@@ -9,7 +9,7 @@ use lib.ListN.{length, drop}
 use lib.Seq.{getD-drop}
 use lib.IntN.{ℤ, pos, negsuc}
 use borrow.Author.Tests.{lt-ltb, le-ltb}
-use Rattle.integers.specs.Integer.{Word, joined, signed, intAt, bits, fourBytes, intBytes}
+use Rattle.integers.specs.Integer.{Word, joined, signed, bitsAt, intAt, bits, fourBytes, intBytes}
 use Rattle.facts.proofs.Cases.{by-test}
 
 -- ---- the bits
@@ -87,6 +87,9 @@ intBytes-signed a b c d pa pb pc pd =
 
 -- ---- at a place
 
+pub bitsAt-drop : (t : List ℕ) (at i : ℕ) → bitsAt (drop at t) i ≡ bitsAt t (at + i)
+bitsAt-drop t at i = simp (getD-drop, add-assoc)
+
 pub intAt-drop : (t : List ℕ) (at i : ℕ) → intAt (drop at t) i ≡ intAt t (at + i)
 unfolding intAt
-intAt-drop t at i = simp (getD-drop, add-assoc)
+intAt-drop t at i = ap signed (bitsAt-drop t at i)

@@ -3,6 +3,8 @@ use mathlib.Core.Path.{_≡_, sym, _∙_}
 use borrow.Fn.Kinds.{Dens, resT, endedOf}
 use contract.Lifetimes.{Lfts}
 use denote.Triple.Clauses.{AtExit}
+use Rattle.integers.proofs.bits_at.Reads as bits-at
+use Rattle.integers.proofs.bits_at.Kinds as bits-at-kinds
 use Rattle.integers.proofs.int_at.Reads as int-at
 use Rattle.integers.proofs.int_at.Kinds as int-at-kinds
 use Rattle.integers.proofs.join_bytes.Reads as join-bytes
@@ -13,6 +15,10 @@ use Rattle.integers.proofs.same.Reads as same
 use Rattle.integers.proofs.same.Kinds as same-kinds
 use Rattle.integers.proofs.within.Reads as within
 use Rattle.integers.proofs.within.Kinds as within-kinds
+
+pub bits-at-unique : (κs : Lfts 1) (a : Dens κs bits-at-kinds.ps) (r r′ : resT bits-at-kinds.r κs .Denot) (s s′ : AtExit (endedOf 1 bits-at-kinds.ps bits-at-kinds.r) κs)
+    → bits-at.Post κs a r s → bits-at.Post κs a r′ s′ → r ≡ r′
+bits-at-unique κs a r r′ s s′ p q = p ∙ sym q
 
 pub int-at-unique : (κs : Lfts 1) (a : Dens κs int-at-kinds.ps) (r r′ : resT int-at-kinds.r κs .Denot) (s s′ : AtExit (endedOf 1 int-at-kinds.ps int-at-kinds.r) κs)
     → int-at.Post κs a r s → int-at.Post κs a r′ s′ → r ≡ r′

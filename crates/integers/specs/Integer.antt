@@ -2,6 +2,7 @@
 -- Word z          <-> z is a 32-bit integer, -2147483648 to 2147483647
 -- joined a b c d  == the number that four bytes say with no sign, the low byte a first
 -- signed u        == the integer whose 32 bits are those of u
+-- bitsAt s i      == the number that the four bytes of s from the place i on say with no sign
 -- intAt s i       == the integer whose four bytes stand in s from the place i on
 -- bits z          == the 32 bits of z as a number with no sign
 -- fourBytes u     == the four bytes of u, low byte first
@@ -26,8 +27,11 @@ joined a b c d = a + b * 256 + c * 65536 + d * 16777216
 unfoldable pub signed : ℕ → ℤ
 signed u = cond (ltb u 2147483648) (pos u) (negsuc (4294967295 - u))
 
+abbrev pub bitsAt : List ℕ → ℕ → ℕ
+bitsAt s i = joined (getD s i 0) (getD s (i + 1) 0) (getD s (i + 2) 0) (getD s (i + 3) 0)
+
 unfoldable pub intAt : List ℕ → ℕ → ℤ
-intAt s i = signed (joined (getD s i 0) (getD s (i + 1) 0) (getD s (i + 2) 0) (getD s (i + 3) 0))
+intAt s i = signed (bitsAt s i)
 
 abbrev pub bits : ℤ → ℕ
 bits (pos n) = n

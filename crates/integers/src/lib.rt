@@ -5,7 +5,7 @@ ghost use mathlib.Core.List.{_++_};
 ghost use Prim.Native.Nat.{_+_, _≤_};
 ghost use lib.ListN.{length, drop};
 ghost use lib.Signed.{leZ};
-ghost use Rattle.integers.specs.Integer.{joined, signed, intAt, bits, intBytes, eqZ};
+ghost use Rattle.integers.specs.Integer.{joined, signed, bitsAt, intAt, bits, intBytes, eqZ};
 use format::LEAST;
 
 // The number that four bytes say with no sign.
@@ -37,12 +37,20 @@ fn to_bits(x: i32) -> u32
     }
 }
 
+// The number that the four bytes of s from `at` on say with no sign.
+pub fn bits_at(s: &[u8], at: usize) -> u32
+    requires { ⌜ at + 4 ≤ length (now s) ⌝ }
+    ensures { λ r. ⌜ r ≡ bitsAt (now (s .entry)) at ⌝ }
+{
+    join_bytes(s[at], s[at + 1], s[at + 2], s[at + 3])
+}
+
 // The integer whose four bytes stand in s from `at` on.
 pub fn int_at(s: &[u8], at: usize) -> i32
     requires { ⌜ at + 4 ≤ length (now s) ⌝ }
     ensures { λ r. ⌜ r ≡ intAt (now (s .entry)) at ⌝ }
 {
-    to_signed(join_bytes(s[at], s[at + 1], s[at + 2], s[at + 3]))
+    to_signed(bits_at(s, at))
 }
 
 // Writes x as the first four bytes of `out`; no other byte changes.

@@ -8,7 +8,8 @@ use lib.ListN.{length, getD, drop}
 use Rattle.grammar.specs.Element.{Elem}
 use Rattle.grammar.specs.Template.{Star, noStar, star, Group, grouped, Item, one, spares, permutation, membersOfGroup, membersOfItem}
 use Rattle.grammar.specs.Record.{countFault}
-use Rattle.grammar.specs.Leaf.{Leaf, leafHead}
+use Rattle.format.specs.declared.Family.{Family}
+use Rattle.grammar.specs.Family.{LeafOf, leavesOf}
 use Rattle.grammar.specs.Read.{mapRead}
 use Rattle.grammar.specs.Whole.{asSpares, starHere, members, permutationHere}
 use Rattle.grammar.specs.Blocks.{blockOfGroup, blockOfItem}
@@ -18,31 +19,31 @@ use Rattle.items.specs.Notes.{MemberNotes, StarNotes, Says, GroupNotes, 
 use Rattle.items.proofs.ItemRecords.{permutation-opens}
 use Rattle.items.proofs.MemberPlaces.{noted-as, map-noted, placed-none}
 
-module _ (t : List ℕ) (m number : ℕ) where
-  pub spares-item : (at r : ℕ) (places : List ℕ) (st : Star) → StarNotes t at r st → Says number (block m 0 (getD t (at + 1) 0) (getD t (at + 2) 0)) → ItemNotes t m places number places (asSpares st)
+module _ (fam : Family) (t : List ℕ) (m number : ℕ) where
+  pub spares-item : (at r : ℕ) (places : List ℕ) (st : Star) → StarNotes t at r st → Says number (block m 0 (getD t (at + 1) 0) (getD t (at + 2) 0)) → ItemNotes fam t m places number places (asSpares st)
   unfolding membersOfItem blockOfItem
   spares-item at r places st n s = go st (n .what)
     where
-      none : (st : Star) → st ≡ star (getD t (at + 1) 0) (getD t (at + 2) 0) → asSpares {L = Leaf} st ≡ spares (getD t (at + 1) 0) (getD t (at + 2) 0)
+      none : (st : Star) → st ≡ star (getD t (at + 1) 0) (getD t (at + 2) 0) → asSpares {L = LeafOf fam} st ≡ spares (getD t (at + 1) 0) (getD t (at + 2) 0)
       none st e = ap asSpares e
 
       zero-more : m + 0 ≡ m
       zero-more = omega arith
 
-      go : (st : Star) → st ≡ star (getD t (at + 1) 0) (getD t (at + 2) 0) → ItemNotes t m places number places (asSpares st)
-      go st e = rw (none st e) (record { placed = rw zero-more (placed-none t m places); says = s })
+      go : (st : Star) → st ≡ star (getD t (at + 1) 0) (getD t (at + 2) 0) → ItemNotes fam t m places number places (asSpares st)
+      go st e = rw (none st e) (record { placed = rw zero-more (placed-none fam t m places); says = s })
 
   module _ (before after : List ℕ) where
-    pub group-item : (g : Group Leaf) → GroupNotes t m before number after g → ItemNotes t m before number after (permutation g)
+    pub group-item : (g : Group (LeafOf fam)) → GroupNotes fam t m before number after g → ItemNotes fam t m before number after (permutation g)
     unfolding membersOfItem blockOfItem
     group-item g w = record { placed = w .placed; says = w .says }
 
-    pub one-item : (e : Elem Leaf) → MemberNotes t m before after e → Says number (block m 1 0 0) → ItemNotes t m before number after (one e)
+    pub one-item : (e : Elem (LeafOf fam)) → MemberNotes fam t m before after e → Says number (block m 1 0 0) → ItemNotes fam t m before number after (one e)
     unfolding membersOfItem blockOfItem
     one-item e w s = record { placed = w; says = s }
 
-pub permutation-noted : (t : List ℕ) (at m code : ℕ) (e : code ≡ countFault 1 32 (drop at t)) (z : code ≡ 0) (before : List ℕ) (number : ℕ) (after : List ℕ) (r : ℕ)
-    → Noted (GroupNotes t m before number after) t (members leafHead true (getD t (at + 1) 0) m noStar (drop (at + 2) t)) (faultIn r) r
-    → Noted (ItemNotes t m before number after) t (permutationHere leafHead m (drop at t)) (faultIn r) r
-permutation-noted t at m code e z before number after r s =
-    noted-as (permutation-opens leafHead t at m code e z) (map-noted permutation (λ g q w. group-item t m number before after g w) s)
+pub permutation-noted : (fam : Family) (t : List ℕ) (at m code : ℕ) (e : code ≡ countFault 1 32 (drop at t)) (z : code ≡ 0) (before : List ℕ) (number : ℕ) (after : List ℕ) (r : ℕ)
+    → Noted (GroupNotes fam t m before number after) t (members (leavesOf fam) true (getD t (at + 1) 0) m noStar (drop (at + 2) t)) (faultIn r) r
+    → Noted (ItemNotes fam t m before number after) t (permutationHere (leavesOf fam) m (drop at t)) (faultIn r) r
+permutation-noted fam t at m code e z before number after r s =
+    noted-as (permutation-opens (leavesOf fam) t at m code e z) (map-noted permutation (λ g q w. group-item fam t m number before after g w) s)

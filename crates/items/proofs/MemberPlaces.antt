@@ -9,7 +9,8 @@ use native.Mathlib.Omega.{arith}
 use lib.ListN.{length, drop, take, set, length-append}
 use lib.Seq.{take-suc-set}
 use Rattle.grammar.specs.Element.{Elem}
-use Rattle.grammar.specs.Leaf.{Leaf}
+use Rattle.format.specs.declared.Family.{Family}
+use Rattle.grammar.specs.Family.{LeafOf}
 use Rattle.grammar.specs.Read.{Read, refuse, got, mapRead}
 use Rattle.elements.specs.Contract.{Noted, stopped, noted}
 use Rattle.elements.proofs.Scans.{noted-stopped}
@@ -43,35 +44,35 @@ noted-told g (noted a q z w i) = noted a q z (g a q w) i
 
 -- ---- the places of the members
 
-standing-more : (t : List ℕ) (es : List (Elem Leaf)) (ps : List ℕ) (e : Elem Leaf) (p : ℕ) → Standing t es ps → StandsAt t p e → Standing t (es ++ e ∷ []) (ps ++ p ∷ [])
+standing-more : (fam : Family) (t : List ℕ) (es : List (Elem (LeafOf fam))) (ps : List ℕ) (e : Elem (LeafOf fam)) (p : ℕ) → Standing fam t es ps → StandsAt fam t p e → Standing fam t (es ++ e ∷ []) (ps ++ p ∷ [])
 unfolding Standing
-standing-more t [] [] e p s h = (h, tt)
-standing-more t [] (q ∷ ps) e p s h = absurd s
-standing-more t (f ∷ es) [] e p s h = absurd s
-standing-more t (f ∷ es) (q ∷ ps) e p s h = (s .0, standing-more t es ps e p (s .1) h)
+standing-more fam t [] [] e p s h = (h, tt)
+standing-more fam t [] (q ∷ ps) e p s h = absurd s
+standing-more fam t (f ∷ es) [] e p s h = absurd s
+standing-more fam t (f ∷ es) (q ∷ ps) e p s h = (s .0, standing-more fam t es ps e p (s .1) h)
 
-pub placed-none : (t : List ℕ) (m : ℕ) (places : List ℕ) → Placed t m places [] m places
-placed-none t m places = record {
+pub placed-none : (fam : Family) (t : List ℕ) (m : ℕ) (places : List ℕ) → Placed fam t m places [] m places
+placed-none fam t m places = record {
   counts = omega arith;
-  stands = λ es₀ s. subst (λ (v : List (Elem Leaf)). Standing t v (take m places)) (sym (append-nil es₀)) s;
+  stands = λ es₀ s. subst (λ (v : List (Elem (LeafOf fam))). Standing fam t v (take m places)) (sym (append-nil es₀)) s;
 }
 
 -- the places before m stay, and p is the next one
-pub placed-one : (t : List ℕ) (m : ℕ) (places : List ℕ) (e : Elem Leaf) (p : ℕ) → m < length places → StandsAt t p e → Placed t m places (e ∷ []) (m + 1) (set places m p)
-placed-one t m places e p l h = record {
+pub placed-one : (fam : Family) (t : List ℕ) (m : ℕ) (places : List ℕ) (e : Elem (LeafOf fam)) (p : ℕ) → m < length places → StandsAt fam t p e → Placed fam t m places (e ∷ []) (m + 1) (set places m p)
+placed-one fam t m places e p l h = record {
   counts = omega arith;
   stands = λ es₀ s.
       let n : m + 1 ≡ suc m = omega arith in
-      rw (n, take-suc-set places m p l) (standing-more t es₀ (take m places) e p s h);
+      rw (n, take-suc-set places m p l) (standing-more fam t es₀ (take m places) e p s h);
 }
 
-pub placed-then : {t : List ℕ} {m : ℕ} {before : List ℕ} {es : List (Elem Leaf)} {k : ℕ} {places : List ℕ} {fs : List (Elem Leaf)} {n : ℕ} {after : List ℕ}
-    → Placed t m before es k places → Placed t k places fs n after → Placed t m before (es ++ fs) n after
-placed-then {t = t} {es = es} {fs = fs} {n = n} {after = after} x y = record {
+pub placed-then : {fam : Family} {t : List ℕ} {m : ℕ} {before : List ℕ} {es : List (Elem (LeafOf fam))} {k : ℕ} {places : List ℕ} {fs : List (Elem (LeafOf fam))} {n : ℕ} {after : List ℕ}
+    → Placed fam t m before es k places → Placed fam t k places fs n after → Placed fam t m before (es ++ fs) n after
+placed-then {fam = fam} {t = t} {es = es} {fs = fs} {n = n} {after = after} x y = record {
   counts = omega (arith, length-append es fs, x .counts, y .counts);
-  stands = λ es₀ s. subst (λ (v : List (Elem Leaf)). Standing t v (take n after)) (append-assoc es₀ es fs) (y .stands (es₀ ++ es) (x .stands es₀ s));
+  stands = λ es₀ s. subst (λ (v : List (Elem (LeafOf fam))). Standing fam t v (take n after)) (append-assoc es₀ es fs) (y .stands (es₀ ++ es) (x .stands es₀ s));
 }
 
 -- what is placed after m members goes by their places only
-pub placed-from : {t : List ℕ} {m : ℕ} {before before′ : List ℕ} {es : List (Elem Leaf)} {k : ℕ} {after : List ℕ} → take m before ≡ take m before′ → Placed t m before es k after → Placed t m before′ es k after
-placed-from {t = t} e x = record { counts = x .counts; stands = λ es₀ s. x .stands es₀ (subst (λ (v : List ℕ). Standing t es₀ v) (sym e) s) }
+pub placed-from : {fam : Family} {t : List ℕ} {m : ℕ} {before before′ : List ℕ} {es : List (Elem (LeafOf fam))} {k : ℕ} {after : List ℕ} → take m before ≡ take m before′ → Placed fam t m before es k after → Placed fam t m before′ es k after
+placed-from {fam = fam} {t = t} e x = record { counts = x .counts; stands = λ es₀ s. x .stands es₀ (subst (λ (v : List ℕ). Standing fam t es₀ v) (sym e) s) }

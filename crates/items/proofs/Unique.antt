@@ -7,7 +7,7 @@ use native.Mathlib.Omega.{arith}
 use borrow.Fn.Kinds.{Dens, resT, endedOf}
 use contract.Lifetimes.{Lfts}
 use denote.Triple.Clauses.{AtExit}
-use Rattle.grammar.specs.Leaf.{Leaf}
+use Rattle.grammar.specs.Family.{LeafOf}
 use Rattle.grammar.specs.Read.{Read}
 use Rattle.grammar.specs.Template.{Group, Item}
 use Rattle.elements.specs.Contract.{faultIn, Noted, stopped, noted}
@@ -19,8 +19,10 @@ use Rattle.items.proofs.record.bounds_fault.Reads as bounds-fault
 use Rattle.items.proofs.record.bounds_fault.Kinds as bounds-fault-kinds
 use Rattle.items.proofs.group.star_end.Reads as star-end
 use Rattle.items.proofs.group.star_end.Kinds as star-end-kinds
-use Rattle.items.proofs.group.member_end.Reads as member-end
-use Rattle.items.proofs.group.member_end.Kinds as member-end-kinds
+use Rattle.items.proofs.group.integer_member_end.Reads as integer-member-end
+use Rattle.items.proofs.group.integer_member_end.Kinds as integer-member-end-kinds
+use Rattle.items.proofs.group.float_member_end.Reads as float-member-end
+use Rattle.items.proofs.group.float_member_end.Kinds as float-member-end-kinds
 use Rattle.items.proofs.group.group_end.Reads as group-end
 use Rattle.items.proofs.group.group_end.Kinds as group-end-kinds
 use Rattle.items.proofs.item.item_end.Reads as item-end
@@ -44,16 +46,20 @@ pub star-end-unique : (κs : Lfts 1) (a : Dens κs star-end-kinds.ps) (r r′ : 
     → star-end.Post κs a r s → star-end.Post κs a r′ s′ → r ≡ r′
 star-end-unique κs a r r′ s s′ p q = noted-same _ _ _ _ r r′ p q
 
-pub member-end-unique : (κs : Lfts 2) (a : Dens κs member-end-kinds.ps) (r r′ : resT member-end-kinds.r κs .Denot) (s s′ : AtExit (endedOf 2 member-end-kinds.ps member-end-kinds.r) κs)
-    → member-end.Post κs a r s → member-end.Post κs a r′ s′ → r ≡ r′
-member-end-unique κs a r r′ s s′ p q = noted-same _ _ _ _ r r′ (p .0) (q .0)
+pub integer-member-end-unique : (κs : Lfts 2) (a : Dens κs integer-member-end-kinds.ps) (r r′ : resT integer-member-end-kinds.r κs .Denot) (s s′ : AtExit (endedOf 2 integer-member-end-kinds.ps integer-member-end-kinds.r) κs)
+    → integer-member-end.Post κs a r s → integer-member-end.Post κs a r′ s′ → r ≡ r′
+integer-member-end-unique κs a r r′ s s′ p q = noted-same _ _ _ _ r r′ (p .0) (q .0)
+
+pub float-member-end-unique : (κs : Lfts 2) (a : Dens κs float-member-end-kinds.ps) (r r′ : resT float-member-end-kinds.r κs .Denot) (s s′ : AtExit (endedOf 2 float-member-end-kinds.ps float-member-end-kinds.r) κs)
+    → float-member-end.Post κs a r s → float-member-end.Post κs a r′ s′ → r ≡ r′
+float-member-end-unique κs a r r′ s s′ p q = noted-same _ _ _ _ r r′ (p .0) (q .0)
 
 pub group-end-unique : (κs : Lfts 3) (a : Dens κs group-end-kinds.ps) (r r′ : resT group-end-kinds.r κs .Denot) (s s′ : AtExit (endedOf 3 group-end-kinds.ps group-end-kinds.r) κs)
-    → group-end.Post κs a r s → group-end.Post κs a r′ s′ → (r ≡ r′) × (r ≤ 16777215 → s .1 .1 .1 .1 .1 .1 .0 .now ≡ s′ .1 .1 .1 .1 .1 .1 .0 .now)
+    → group-end.Post κs a r s → group-end.Post κs a r′ s′ → (r ≡ r′) × (r ≤ 16777215 → s .1 .1 .1 .1 .1 .1 .1 .0 .now ≡ s′ .1 .1 .1 .1 .1 .1 .1 .0 .now)
 group-end-unique κs a r r′ s s′ p q =
-    (noted-same _ _ _ _ r r′ (p .0) (q .0), noted-one (s .1 .1 .1 .1 .1 .1 .0 .now ≡ s′ .1 .1 .1 .1 .1 .1 .0 .now) (λ (g : Group Leaf) x y. x .says .0 ∙ sym (y .says .0)) (p .0) (q .0))
+    (noted-same _ _ _ _ r r′ (p .0) (q .0), noted-one (s .1 .1 .1 .1 .1 .1 .1 .0 .now ≡ s′ .1 .1 .1 .1 .1 .1 .1 .0 .now) (λ (g : Group (LeafOf (a .1 .1 .1 .1 .1 .0 .family))) x y. x .says .0 ∙ sym (y .says .0)) (p .0) (q .0))
 
 pub item-end-unique : (κs : Lfts 3) (a : Dens κs item-end-kinds.ps) (r r′ : resT item-end-kinds.r κs .Denot) (s s′ : AtExit (endedOf 3 item-end-kinds.ps item-end-kinds.r) κs)
-    → item-end.Post κs a r s → item-end.Post κs a r′ s′ → (r ≡ r′) × (r ≤ 16777215 → s .1 .1 .1 .1 .0 .now ≡ s′ .1 .1 .1 .1 .0 .now)
+    → item-end.Post κs a r s → item-end.Post κs a r′ s′ → (r ≡ r′) × (r ≤ 16777215 → s .1 .1 .1 .1 .1 .0 .now ≡ s′ .1 .1 .1 .1 .1 .0 .now)
 item-end-unique κs a r r′ s s′ p q =
-    (noted-same _ _ _ _ r r′ (p .0) (q .0), noted-one (s .1 .1 .1 .1 .0 .now ≡ s′ .1 .1 .1 .1 .0 .now) (λ (i : Item Leaf) x y. x .says .0 ∙ sym (y .says .0)) (p .0) (q .0))
+    (noted-same _ _ _ _ r r′ (p .0) (q .0), noted-one (s .1 .1 .1 .1 .1 .0 .now ≡ s′ .1 .1 .1 .1 .1 .0 .now) (λ (i : Item (LeafOf (a .1 .1 .1 .0 .family))) x y. x .says .0 ∙ sym (y .says .0)) (p .0) (q .0))

@@ -2,21 +2,26 @@
 ghost use mathlib.Core.Path.{_≡_};
 ghost use Prim.Native.Nat.{_+_, _≤_};
 ghost use lib.ListN.{length, drop, take};
-ghost use Rattle.grammar.specs.Leaf.{leafHead};
+ghost use Rattle.format.specs.declared.Family.{Family};
+ghost use Rattle.grammar.specs.Family.{leavesOf};
+ghost use Rattle.grammar.specs.Record.{head};
 ghost use Rattle.grammar.specs.Template.{noStar};
 ghost use Rattle.grammar.specs.Whole.{starHere, member, members};
-ghost use Rattle.elements.specs.Contract.{faultIn, Place, Noted};
+ghost use Rattle.elements.specs.Contract.{faultIn, Place, HeadAt, Noted};
 ghost use Rattle.items.specs.Notes.{StarNotes, MemberNotes, Says, groupBlock, GroupNotes};
 use crate::record::bounds_fault;
 use crate::record::kind_at;
 use blocks::Block;
 use blocks::number_of;
-use elements::head_end;
+use elements::Sort;
+use elements::float_head_end;
+use elements::integer_head_end;
 use elements::refusal;
 use elements::rest_end;
 use format::BOUNDS_SIZE;
 use format::DONE;
 use format::FAULT;
+use format::Family;
 use format::LAST_MEMBER;
 use format::STARS;
 use format::TOO_MANY;
@@ -36,22 +41,64 @@ pub fn star_end(t: &[u8], at: usize, seen: bool) -> usize
     at + BOUNDS_SIZE
 }
 
-// The place after the element template that stands as an item at `at`, with m members before it, or its refusal. Its place is noted; those of the
-// members before it stay.
-pub fn member_end(t: &[u8], at: usize, m: usize, places: &mut [u16; 32]) -> usize
-    requires { ⌜ Place (now t) at × (length (now places) ≡ 32) ⌝ }
-    ensures { λ r. ⌜ Noted (MemberNotes (now (t .entry)) m (now (places .entry)) (now (places .exit))) (now (t .entry)) (member leafHead m (drop at (now (t .entry)))) (faultIn r) r × (length (now (places .exit)) ≡ 32) × (take m (now (places .exit)) ≡ take m (now (places .entry))) ⌝ }
+// The place after the element template that stands as an item at `at`, whose record ends at `end`, with m members before it, or its refusal. Its
+// place is noted; those of the members before it stay.
+fn numbered_end(
+    t: &[u8],
+    at: usize,
+    end: usize,
+    m: usize,
+    sort: Sort,
+    places: &mut [u16; 32],
+) -> usize
+    requires { ⌜ Place (now t) at × HeadAt (now t) at (head (leavesOf (sort .family)) (drop at (now t))) end × (length (now places) ≡ 32) ⌝ }
+    ensures { λ r. ⌜ Noted (MemberNotes (sort .family) (now (t .entry)) m (now (places .entry)) (now (places .exit))) (now (t .entry)) (member (leavesOf (sort .family)) m (drop at (now (t .entry)))) (faultIn r) r × (length (now (places .exit)) ≡ 32) × (take m (now (places .exit)) ≡ take m (now (places .entry))) ⌝ }
 {
-    let end = head_end(t, at);
     if FAULT < end {
         return end;
     }
     if LAST_MEMBER < m {
         return refusal(TOO_MANY);
     }
-    let rest = rest_end(t, at, end);
+    let rest = rest_end(t, at, end, sort);
     places[m] = at as u16;
     rest
+}
+
+// The same of an element template of the integer family.
+pub fn integer_member_end(t: &[u8], at: usize, m: usize, places: &mut [u16; 32]) -> usize
+    requires { ⌜ Place (now t) at × (length (now places) ≡ 32) ⌝ }
+    ensures { λ r. ⌜ Noted (MemberNotes Family.Integers (now (t .entry)) m (now (places .entry)) (now (places .exit))) (now (t .entry)) (member (leavesOf Family.Integers) m (drop at (now (t .entry)))) (faultIn r) r × (length (now (places .exit)) ≡ 32) × (take m (now (places .exit)) ≡ take m (now (places .entry))) ⌝ }
+{
+    let end = integer_head_end(t, at);
+    numbered_end(
+        t,
+        at,
+        end,
+        m,
+        Sort {
+            family: Family::Integers,
+        },
+        places,
+    )
+}
+
+// The same of the float family.
+pub fn float_member_end(t: &[u8], at: usize, m: usize, places: &mut [u16; 32]) -> usize
+    requires { ⌜ Place (now t) at × (length (now places) ≡ 32) ⌝ }
+    ensures { λ r. ⌜ Noted (MemberNotes Family.Floats (now (t .entry)) m (now (places .entry)) (now (places .exit))) (now (t .entry)) (member (leavesOf Family.Floats) m (drop at (now (t .entry)))) (faultIn r) r × (length (now (places .exit)) ≡ 32) × (take m (now (places .exit)) ≡ take m (now (places .entry))) ⌝ }
+{
+    let end = float_head_end(t, at);
+    numbered_end(
+        t,
+        at,
+        end,
+        m,
+        Sort {
+            family: Family::Floats,
+        },
+        places,
+    )
 }
 
 // The block of the members from m on up to `count`, and of the 20 whose min and max stand at `star`, or of none where that is 0.
@@ -85,11 +132,12 @@ pub fn group_end(
     n: usize,
     m: usize,
     stars: bool,
+    sort: Sort,
     places: &mut [u16; 32],
     block: &mut u32,
 ) -> usize
     requires { ⌜ Place (now t) at × (m ≤ 32) × (length (now places) ≡ 32) ⌝ }
-    ensures { λ r. ⌜ Noted (GroupNotes (now (t .entry)) m (now (places .entry)) (now (block .exit)) (now (places .exit))) (now (t .entry)) (members leafHead stars n m noStar (drop at (now (t .entry)))) (faultIn r) r × (length (now (places .exit)) ≡ 32) ⌝ }
+    ensures { λ r. ⌜ Noted (GroupNotes (sort .family) (now (t .entry)) m (now (places .entry)) (now (block .exit)) (now (places .exit))) (now (t .entry)) (members (leavesOf (sort .family)) stars n m noStar (drop at (now (t .entry)))) (faultIn r) r × (length (now (places .exit)) ≡ 32) ⌝ }
 {
     let mut p = at;
     let mut count = m;
@@ -97,7 +145,11 @@ pub fn group_end(
     let mut more = n;
     while 0 < more {
         let here = p;
-        p = member_end(t, here, count, places);
+        let family = sort.family;
+        p = match family {
+            Family::Integers => integer_member_end(t, here, count, places),
+            Family::Floats => float_member_end(t, here, count, places),
+        };
         if FAULT < p {
             if !(stars & (kind_at(t, here) == STARS)) {
                 return p;

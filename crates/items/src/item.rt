@@ -4,22 +4,26 @@ ghost use mathlib.Core.List.{List};
 ghost use mathlib.Core.Bool.{false};
 ghost use Prim.Native.Nat.{ℕ, _≤_};
 ghost use lib.ListN.{length, drop};
-ghost use Rattle.grammar.specs.Leaf.{leafHead};
+ghost use Rattle.format.specs.declared.Family.{Family};
+ghost use Rattle.grammar.specs.Family.{leavesOf};
 ghost use Rattle.grammar.specs.Read.{mapRead};
 ghost use Rattle.grammar.specs.Whole.{asSpares, starHere, permutationHere, item};
 ghost use Rattle.elements.specs.Contract.{faultIn, Place, Noted};
 ghost use Rattle.items.specs.Notes.{ItemNotes};
+use crate::group::float_member_end;
 use crate::group::group_end;
-use crate::group::member_end;
+use crate::group::integer_member_end;
 use crate::group::star_end;
 use crate::record::kind_at;
 use blocks::Block;
 use blocks::number_of;
+use elements::Sort;
 use elements::count_fault;
 use elements::refusal;
 use format::COUNT_SIZE;
 use format::DONE;
 use format::FAULT;
+use format::Family;
 use format::ITEMS_MOST;
 use format::PERMUTATION;
 use format::STARS;
@@ -27,7 +31,7 @@ use format::STARS;
 // The place after the 20 that stands as an item at `at`, with m members before it, or its fault.
 fn spares_end(t: &[u8], at: usize, m: usize, block: &mut u32) -> usize
     requires { ⌜ Place (now t) at × (m ≤ 32) ⌝ }
-    ensures { λ r. ⌜ ((places : List ℕ) → Noted (ItemNotes (now (t .entry)) m places (now (block .exit)) places) (now (t .entry)) (mapRead asSpares (starHere false (drop at (now (t .entry))))) (faultIn r) r) ⌝ }
+    ensures { λ r. ⌜ ((f : Family) (places : List ℕ) → Noted (ItemNotes f (now (t .entry)) m places (now (block .exit)) places) (now (t .entry)) (mapRead asSpares (starHere false (drop at (now (t .entry))))) (faultIn r) r) ⌝ }
 {
     let end = star_end(t, at, false);
     if FAULT < end {
@@ -43,9 +47,16 @@ fn spares_end(t: &[u8], at: usize, m: usize, block: &mut u32) -> usize
 }
 
 // The place after the permutation at `at`, with m members before it, or its refusal.
-fn permutation_end(t: &[u8], at: usize, m: usize, places: &mut [u16; 32], block: &mut u32) -> usize
+fn permutation_end(
+    t: &[u8],
+    at: usize,
+    m: usize,
+    sort: Sort,
+    places: &mut [u16; 32],
+    block: &mut u32,
+) -> usize
     requires { ⌜ Place (now t) at × (m ≤ 32) × (length (now places) ≡ 32) ⌝ }
-    ensures { λ r. ⌜ Noted (ItemNotes (now (t .entry)) m (now (places .entry)) (now (block .exit)) (now (places .exit))) (now (t .entry)) (permutationHere leafHead m (drop at (now (t .entry)))) (faultIn r) r × (length (now (places .exit)) ≡ 32) ⌝ }
+    ensures { λ r. ⌜ Noted (ItemNotes (sort .family) (now (t .entry)) m (now (places .entry)) (now (block .exit)) (now (places .exit))) (now (t .entry)) (permutationHere (leavesOf (sort .family)) m (drop at (now (t .entry)))) (faultIn r) r × (length (now (places .exit)) ≡ 32) ⌝ }
 {
     let code = count_fault(t, at, 1, ITEMS_MOST);
     if code != DONE {
@@ -57,22 +68,32 @@ fn permutation_end(t: &[u8], at: usize, m: usize, places: &mut [u16; 32], block:
         t[at + 1] as usize,
         m,
         true,
+        sort,
         places,
         block,
     )
 }
 
 // The place after the item of a record of at `at`, with m members before it, or its refusal. Its block is noted.
-pub fn item_end(t: &[u8], at: usize, m: usize, places: &mut [u16; 32], block: &mut u32) -> usize
+pub fn item_end(
+    t: &[u8],
+    at: usize,
+    m: usize,
+    sort: Sort,
+    places: &mut [u16; 32],
+    block: &mut u32,
+) -> usize
     requires { ⌜ Place (now t) at × (m ≤ 32) × (length (now places) ≡ 32) ⌝ }
-    ensures { λ r. ⌜ Noted (ItemNotes (now (t .entry)) m (now (places .entry)) (now (block .exit)) (now (places .exit))) (now (t .entry)) (item leafHead m (drop at (now (t .entry)))) (faultIn r) r × (length (now (places .exit)) ≡ 32) ⌝ }
+    ensures { λ r. ⌜ Noted (ItemNotes (sort .family) (now (t .entry)) m (now (places .entry)) (now (block .exit)) (now (places .exit))) (now (t .entry)) (item (leavesOf (sort .family)) m (drop at (now (t .entry)))) (faultIn r) r × (length (now (places .exit)) ≡ 32) ⌝ }
 {
     let kind = kind_at(t, at);
-    if kind == STARS {
-        return spares_end(t, at, m, block);
-    }
-    if kind == PERMUTATION {
-        return permutation_end(t, at, m, places, block);
+    if STARS <= kind {
+        if kind == STARS {
+            return spares_end(t, at, m, block);
+        }
+        if kind == PERMUTATION {
+            return permutation_end(t, at, m, sort, places, block);
+        }
     }
     *block = number_of(Block {
         first: m as u8,
@@ -80,5 +101,9 @@ pub fn item_end(t: &[u8], at: usize, m: usize, places: &mut [u16; 32], block: &m
         min: 0,
         max: 0,
     });
-    member_end(t, at, m, places)
+    let family = sort.family;
+    match family {
+        Family::Integers => integer_member_end(t, at, m, places),
+        Family::Floats => float_member_end(t, at, m, places),
+    }
 }

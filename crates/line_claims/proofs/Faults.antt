@@ -11,6 +11,7 @@ use lib.ListN.{length, getD, drop}
 use lib.IntN.{ℤ}
 use Rattle.facts.proofs.Cases.{by-test}
 use Rattle.integers.specs.Integer.{intAt}
+use Rattle.format.specs.declared.Family.{Family}
 use Rattle.grammar.specs.Leaf.{Leaf, leafHead}
 use Rattle.grammar.specs.Read.{Read, refuse, got, orRefuse, refuseOr, verdict, ended}
 use Rattle.grammar.specs.Record.{kindOf, countFault, boundsFault, outside}
@@ -116,7 +117,7 @@ reached-refusal s r e = size (ltb 65536 (length s)) e
     own : rest ≡ refuse r → r < 256
     own q =
         ⊎-elim
-        (λ (a : verdict (readTemplate leafHead (templateIn s)) ≡ r). let h = verdict-small (readTemplate leafHead (templateIn s)) (λ n q. template-row (templateIn s) n q .most) in omega arith)
+        (λ (a : verdict (readTemplate leafHead (templateIn s)) ≡ r). let h = verdict-small (readTemplate leafHead (templateIn s)) (λ n q. template-row Family.Integers (templateIn s) n q .row .1) in omega arith)
         (λ (a : got (templateIn s) (drop (afterTemplate s) s) ≡ refuse r). absurd (clash (sym a)))
         (refused-by (verdict (readTemplate leafHead (templateIn s))) (got (templateIn s) (drop (afterTemplate s) s)) r q)
 
@@ -167,7 +168,7 @@ short-unread t p (refuses r f) q = never (ltb 4096 (length t)) (ap (λ o. orRefu
 
 pub two-bytes : (t : List ℕ) → verdict (readTemplate leafHead t) ≡ 0 → 2 ≤ length t
 unfolding verdict
-two-bytes t e = by-reading (read-cases t)
+two-bytes t e = by-reading (read-cases Family.Integers t)
   where
     by-reading : Cases (readTemplate leafHead t) → 2 ≤ length t
     by-reading (isRefused r q more) = let z = sym e ∙ ap verdict q in absurd (omega arith)

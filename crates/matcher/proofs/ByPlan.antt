@@ -1,5 +1,5 @@
 -- From the plan, the rows and the blocks to the rules. Assumes nothing.
--- Ready t p n <-> p is the plan of the accepted bytes t, and a list of n elements is short enough. planned-ready: so it is where the plan's number is 0.
+-- Ready fam t p n <-> p is the plan of the accepted bytes t, and a list of n elements is short enough. planned-ready: so it is where the plan's number is 0.
 -- ready-inside, ready-members: what the search and the rows ask of a plan. rows-agree, agree-from: the rows say of each pair whether it matches.
 -- length-by: the plan's bounds are the length attribute. best-by, pass-by: what the plan's kind, blocks and members allow by the rows is what obeys.
 -- unmet-none: a length that is not met leaves no assignment.
@@ -12,7 +12,6 @@ use native.Mathlib.Nat.{zero-add}
 use borrow.Author.Tests.{le-leb, ltb-false}
 use lib.Dec.{leb, ltb}
 use lib.ListN.{length, getD, take}
-use lib.IntN.{ℤ, pos}
 use Rattle.facts.proofs.Cases.{and-right, both, clash, by-test}
 use Rattle.blocks.specs.declared.Block.{Block}
 use Rattle.blocks.specs.Numbers.{blockIn, blocksIn}
@@ -20,11 +19,11 @@ use Rattle.obeying.proofs.Bodies.{first-block}
 use Rattle.blocks.specs.Pieces.{Inside, Best}
 use Rattle.blocks.proofs.FirstLists.{best-same}
 use Rattle.grammar.specs.Element.{Elem}
-use Rattle.grammar.specs.Leaf.{Leaf, leafHead}
+use Rattle.format.specs.declared.Family.{Family}
+use Rattle.grammar.specs.Family.{LeafOf, leavesOf, ElementOf, noElement, matchesOf}
 use Rattle.grammar.specs.Template.{Item, grouped, one, spares, permutation, Body, recordOf, setOf, superset, subset, Length, anyLength, between, Template, template, membersOfGroup, membersOfItem, membersOfItems, membersOf}
 use Rattle.grammar.specs.Read.{Read, refuse, got}
 use Rattle.grammar.specs.Whole.{readTemplate}
-use Rattle.grammar.specs.Matches.{matches}
 use Rattle.grammar.specs.Members.{memberHits}
 use Rattle.grammar.specs.Blocks.{blockOfGroup, blockOfItem, blocksOfItems, blocksOf, bodyKind, lowOf, highOf, Standing}
 use Rattle.grammar.proofs.MemberLimit.{accepted-short}
@@ -38,22 +37,22 @@ use Rattle.witnesses.specs.ByKind.{Allows, OneBlock}
 
 -- ---- the plan of accepted bytes
 
-pub record Ready (t : List ℕ) (p : Plan) (n : ℕ) : Type 0 where
+pub record Ready (fam : Family) (t : List ℕ) (p : Plan) (n : ℕ) : Type 0 where
   pub attribute : Length
-  pub body : Body Leaf
-  pub accepted : readTemplate leafHead t ≡ got (template attribute body) []
-  pub planned : Planned t attribute body p
+  pub body : Body (LeafOf fam)
+  pub accepted : readTemplate (leavesOf fam) t ≡ got (template attribute body) []
+  pub planned : Planned fam t attribute body p
   pub short : n ≤ 32
 
-pub planned-ready : (t : List ℕ) (p : Plan) (n : ℕ) → PlanOf t p → p .number ≡ 0 → n ≤ 32 → Ready t p n
-planned-ready t p n (refusedPlan number q z e) h l = let s : p .number ≡ number = cc in absurd (omega arith)
-planned-ready t p n (aPlan a b q z pl) h l = record { attribute = a; body = b; accepted = q; planned = pl; short = l }
+pub planned-ready : (fam : Family) (t : List ℕ) (p : Plan) (n : ℕ) → PlanOf fam t p → p .number ≡ 0 → n ≤ 32 → Ready fam t p n
+planned-ready fam t p n (refusedPlan number q z e) h l = let s : p .number ≡ number = cc in absurd (omega arith)
+planned-ready fam t p n (aPlan a b q z pl) h l = record { attribute = a; body = b; accepted = q; planned = pl; short = l }
 
-few : {t : List ℕ} {p : Plan} {n : ℕ} (r : Ready t p n) → length (membersOf (r .body)) ≤ 32
+few : {fam : Family} {t : List ℕ} {p : Plan} {n : ℕ} (r : Ready fam t p n) → length (membersOf (r .body)) ≤ 32
 few r = let s = r .planned .size in let f = r .planned .fewMembers in omega arith
 
-pub ready-members : {t : List ℕ} {p : Plan} {n : ℕ} → Ready t p n → MembersAt t (p .places) (p .members)
-ready-members {t} r = record { few = r .planned .fewMembers; short = let l = accepted-short leafHead t (template (r .attribute) (r .body)) (r .accepted) in omega arith; who = membersOf (r .body); size = r .planned .size; stands = r .planned .stands }
+pub ready-members : {fam : Family} {t : List ℕ} {p : Plan} {n : ℕ} → Ready fam t p n → MembersAt fam t (p .places) (p .members)
+ready-members {fam} {t} r = record { few = r .planned .fewMembers; short = let l = accepted-short (leavesOf fam) t (template (r .attribute) (r .body)) (r .accepted) in omega arith; who = membersOf (r .body); size = r .planned .size; stands = r .planned .stands }
 
 -- ---- every block's members are below 32
 
@@ -78,17 +77,18 @@ blocks-inside (setOf (grouped es st)) l = (omega arith, tt)
 blocks-inside (superset es) l = (omega arith, tt)
 blocks-inside (subset es) l = (omega arith, tt)
 
-pub ready-inside : {t : List ℕ} {p : Plan} {n : ℕ} → Ready t p n → Inside (blocksIn (take (p .count) (p .blocks)))
+pub ready-inside : {fam : Family} {t : List ℕ} {p : Plan} {n : ℕ} → Ready fam t p n → Inside (blocksIn (take (p .count) (p .blocks)))
 ready-inside r = rw (r .planned .cut) (blocks-inside (r .body) (few r))
 
 -- ---- the rows say of each pair whether it matches
 
-pub agree-from : (es : List (Elem Leaf)) (related : ℕ → ℕ → Bool) (e : ℕ) (xs : List ℤ) → ((m i : ℕ) → i < length xs → related m (e + i) ≡ memberHits matches es m (getD xs i (pos 0))) → Agree matches es e xs related
+pub agree-from : (fam : Family) (es : List (Elem (LeafOf fam))) (related : ℕ → ℕ → Bool) (e : ℕ) (xs : List (ElementOf fam)) → ((m i : ℕ) → i < length xs → related m (e + i) ≡ memberHits (matchesOf fam) es m (getD xs i (noElement fam)))
+    → Agree (matchesOf fam) es e xs related
 unfolding Agree
-agree-from es related e [] h = tt
-agree-from es related e (x ∷ xs) h =
+agree-from fam es related e [] h = tt
+agree-from fam es related e (x ∷ xs) h =
     let z : e + 0 ≡ e = omega arith in
-    (λ m. rw z at (h m 0 (omega arith)), agree-from es related (suc e) xs (λ m i l. let y : suc e + i ≡ e + suc i = omega arith in rw y (h m (suc i) (omega arith))))
+    (λ m. rw z at (h m 0 (omega arith)), agree-from fam es related (suc e) xs (λ m i l. let y : suc e + i ≡ e + suc i = omega arith in rw y (h m (suc i) (omega arith))))
 
 -- ---- the length attribute
 
@@ -97,21 +97,20 @@ unfolding lengthMet
 length-is anyLength n l = both (leb 0 n) (leb n 255) (le-leb 0 n (omega arith)) (le-leb n 255 (omega arith))
 length-is (between min max) n l = refl
 
-pub length-by : (t : List ℕ) (p : Plan) (xs : List ℤ) → length xs ≤ 32 → (met : Bool) → met ≡ (leb (p .low) (length xs) && leb (length xs) (p .high))
-    → (a : Length) (b : Body Leaf) → Planned t a b p → met ≡ lengthMet a (length xs)
-length-by t p xs short met says a b pl = says ∙ rw (pl .lower, pl .upper) (length-is a (length xs) short)
+pub length-by : (fam : Family) (t : List ℕ) (p : Plan) (n : ℕ) → n ≤ 32 → (met : Bool) → met ≡ (leb (p .low) n && leb n (p .high)) → (a : Length) (b : Body (LeafOf fam)) → Planned fam t a b p → met ≡ lengthMet a n
+length-by fam t p n short met says a b pl = says ∙ rw (pl .lower, pl .upper) (length-is a n short)
 
-pub unmet-none : (a : Length) (b : Body Leaf) (xs : List ℤ) → lengthMet a (length xs) ≡ false → (v : List ℕ) → Obeys (template a b) xs v → ⊥
+pub unmet-none : (fam : Family) (a : Length) (b : Body (LeafOf fam)) (xs : List (ElementOf fam)) → lengthMet a (length xs) ≡ false → (v : List ℕ) → Obeys fam (template a b) xs v → ⊥
 unfolding obeysBy
-unmet-none a b xs m v o =
-    let r = rightBytes matches (membersOf b) xs v in
+unmet-none fam a b xs m v o =
+    let r = rightBytes (matchesOf fam) (membersOf b) xs v in
     let n = noneTwice (length (membersOf b)) v in
     let l = lengthMet a (length xs) in
     clash (and-right (bodyMet b v) l (and-right n (bodyMet b v && l) (and-right r (n && (bodyMet b v && l)) o))) m
 
 -- ---- from the kind, the blocks and the members to the rules
 
-body-allows : (b : Body Leaf) (related : ℕ → ℕ → Bool) (n : ℕ) (P : (List ℕ → Type 0) → Type 0) → P (Allows (bodyKind b) (blocksOf b) (length (membersOf b)) related n) → P (ByBlocks b related n)
+body-allows : {L : Type 0} (b : Body L) (related : ℕ → ℕ → Bool) (n : ℕ) (P : (List ℕ → Type 0) → Type 0) → P (Allows (bodyKind b) (blocksOf b) (length (membersOf b)) related n) → P (ByBlocks b related n)
 unfolding Allows bodyKind ByBlocks membersOf
 body-allows (recordOf is) related n P h = h
 body-allows (setOf g) related n P h = h
@@ -135,37 +134,37 @@ blocks-below (setOf (grouped es st)) = (omega arith, tt)
 blocks-below (superset es) = (omega arith, tt)
 blocks-below (subset es) = (omega arith, tt)
 
-pub ready-below : {t : List ℕ} {p : Plan} {n : ℕ} (r : Ready t p n) → Below (p .members) (blocksIn (take (p .count) (p .blocks)))
+pub ready-below : {fam : Family} {t : List ℕ} {p : Plan} {n : ℕ} (r : Ready fam t p n) → Below (p .members) (blocksIn (take (p .count) (p .blocks)))
 ready-below r = let pl = r .planned in rw (pl .cut, pl .size) (blocks-below (r .body))
 
-one-body : (kind count : ℕ) (vs : List ℕ) (b : Body Leaf) → kind ≡ bodyKind b → blocksIn (take count vs) ≡ blocksOf b → (kind ≡ 0x10 → ⊥) → blocksIn (take count vs) ≡ blockIn (getD vs 0 0) ∷ []
+one-body : {L : Type 0} (kind count : ℕ) (vs : List ℕ) (b : Body L) → kind ≡ bodyKind b → blocksIn (take count vs) ≡ blocksOf b → (kind ≡ 0x10 → ⊥) → blocksIn (take count vs) ≡ blockIn (getD vs 0 0) ∷ []
 unfolding bodyKind blocksOf
 one-body kind count vs (recordOf is) k q n = absurd (n k)
 one-body kind count vs (setOf g) k q n = q ∙ ap (λ (c : Block). c ∷ []) (sym (first-block count vs _ q))
 one-body kind count vs (superset es) k q n = q ∙ ap (λ (c : Block). c ∷ []) (sym (first-block count vs _ q))
 one-body kind count vs (subset es) k q n = q ∙ ap (λ (c : Block). c ∷ []) (sym (first-block count vs _ q))
 
-pub ready-alone : {t : List ℕ} {p : Plan} {n : ℕ} (r : Ready t p n) → OneBlock (p .kind) (p .count) (p .blocks)
-ready-alone {t} {p} r = let pl = r .planned in record { alone = λ n10 n13. one-body (p .kind) (p .count) (p .blocks) (r .body) (pl .kind) (pl .cut) n10 }
+pub ready-alone : {fam : Family} {t : List ℕ} {p : Plan} {n : ℕ} (r : Ready fam t p n) → OneBlock (p .kind) (p .count) (p .blocks)
+ready-alone {fam} {t} {p} r = let pl = r .planned in record { alone = λ n10 n13. one-body (p .kind) (p .count) (p .blocks) (r .body) (pl .kind) (pl .cut) n10 }
 
 -- ---- the first witness
 
-module _ {t : List ℕ} {p : Plan} (xs : List ℤ) (r : Ready t p (length xs)) (met : lengthMet (r .attribute) (length xs) ≡ true) where
+module _ {fam : Family} {t : List ℕ} {p : Plan} (xs : List (ElementOf fam)) (r : Ready fam t p (length xs)) (met : lengthMet (r .attribute) (length xs) ≡ true) where
   abbrev related : ℕ → ℕ → Bool
-  related = pairOf (membersOf (r .body)) xs
+  related = pairOf fam (membersOf (r .body)) xs
 
   allowed : (P : (List ℕ → Type 0) → Type 0) → P (Allows (p .kind) (blocksIn (take (p .count) (p .blocks))) (p .members) related (length xs)) → P (ByBlocks (r .body) related (length xs))
   allowed P h = let pl = r .planned in body-allows (r .body) related (length xs) P (rw (pl .kind, pl .cut, pl .size) at h)
 
-  agrees : Agree matches (membersOf (r .body)) 0 xs related
-  agrees = agree-from (membersOf (r .body)) related 0 xs (λ m i l. rw (zero-add i) refl)
+  agrees : Agree (matchesOf fam) (membersOf (r .body)) 0 xs related
+  agrees = agree-from fam (membersOf (r .body)) related 0 xs (λ m i l. rw (zero-add i) refl)
 
-  there : (v : List ℕ) → ByBlocks (r .body) related (length xs) v → Obeys (template (r .attribute) (r .body)) xs v
-  there v c = obeys-test matches (r .attribute) (r .body) related xs agrees (few r) (r .short) v c met
+  there : (v : List ℕ) → ByBlocks (r .body) related (length xs) v → Obeys fam (template (r .attribute) (r .body)) xs v
+  there v c = obeys-test (matchesOf fam) (r .attribute) (r .body) related xs agrees (few r) (r .short) v c met
 
-  back : (v : List ℕ) → Obeys (template (r .attribute) (r .body)) xs v → ByBlocks (r .body) related (length xs) v
-  back v o = obeys-says matches (r .attribute) (r .body) related xs agrees (few r) (r .short) v o .0
+  back : (v : List ℕ) → Obeys fam (template (r .attribute) (r .body)) xs v → ByBlocks (r .body) related (length xs) v
+  back v o = obeys-says (matchesOf fam) (r .attribute) (r .body) related xs agrees (few r) (r .short) v o .0
 
-  pub best-by : {found : Bool} {w : List ℕ} → ((es : List (Elem Leaf)) → Standing t es (take (p .members) (p .places)) → Best (Allows (p .kind) (blocksIn (take (p .count) (p .blocks))) (p .members) (pairOf es xs) (length xs)) (length xs) found w)
-      → Best (Obeys (template (r .attribute) (r .body)) xs) (length xs) found w
+  pub best-by : {found : Bool} {w : List ℕ} → ((es : List (Elem (LeafOf fam))) → Standing fam t es (take (p .members) (p .places)) → Best (Allows (p .kind) (blocksIn (take (p .count) (p .blocks))) (p .members) (pairOf fam es xs) (length xs)) (length xs) found w)
+      → Best (Obeys fam (template (r .attribute) (r .body)) xs) (length xs) found w
   best-by {found} {w} h = best-same there back (allowed (λ P. Best P (length xs) found w) (h (membersOf (r .body)) (r .planned .stands)))

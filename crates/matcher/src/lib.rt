@@ -1,14 +1,18 @@
 // When a list matches: the first witness in byte order, and the judge of an offered one. Both go by the plan of the template, which is made once
-// for as many lists as are asked about.
+// for as many lists as are asked about. A list is lent as integers and floats, of which one is empty.
 ghost use mathlib.Core.Path.{_≡_};
 ghost use mathlib.Core.Bool.{_&&_};
 ghost use Prim.Native.Nat.{_≤_};
 ghost use lib.Dec.{leb};
 ghost use lib.ListN.{length};
+ghost use Rattle.format.specs.declared.Family.{Family};
+ghost use Rattle.grammar.specs.Family.{listOf, Lent};
 ghost use Rattle.plans.specs.Plans.{PlanOf};
 ghost use Rattle.matching.specs.Answer.{given, matchAnswer, judgeAnswer};
-ghost use Rattle.matcher.specs.Contract.{Copied};
+ghost use Rattle.matcher.specs.Contract.{Copied, Planning};
+use elements::Sort;
 use format::DONE;
+use format::Family;
 use format::LIST_MOST;
 use format::LIST_TOO_LONG;
 use format::NO_MATCH;
@@ -44,24 +48,30 @@ fn write_witness(w: [u8; 32], n: usize, room: &mut [u8])
 
 // The number for this list, and on a match the first witness in byte order at the front of the room, one byte for each element; by the plan
 // of the template.
-pub fn match_planned(template: &[u8], plan: Plan, list: &[i32], room: &mut [u8]) -> u8
-    requires { ⌜ PlanOf (now template) plan ⌝ }
-    ensures { λ r. ⌜ given r (now (room .exit)) ≡ matchAnswer (now (template .entry)) (now (list .entry)) (now (room .entry)) ⌝ }
+pub fn match_planned(
+    template: &[u8],
+    plan: Plan,
+    integers: &[i32],
+    floats: &[f64],
+    room: &mut [u8],
+) -> u8
+    requires { ⌜ Planning (now template) plan (now integers) (now floats) ⌝ }
+    ensures { λ r. ⌜ ((f : Family) → PlanOf f (now (template .entry)) plan → Lent f (now (integers .entry)) (now (floats .entry)) → given r (now (room .exit)) ≡ matchAnswer f (now (template .entry)) (listOf f (now (integers .entry)) (now (floats .entry))) (now (room .entry))) ⌝ }
 {
     if TEMPLATE_MOST < template.len() {
         return TOO_LONG;
     }
-    if LIST_MOST < list.len() {
+    let n = integers.len() + floats.len();
+    if LIST_MOST < n {
         return LIST_TOO_LONG;
     }
-    if room.len() < list.len() {
+    if room.len() < n {
         return ROOM_TOO_SHORT;
     }
     let number = plan.number;
     if number != DONE {
         return number;
     }
-    let n = list.len();
     if !length_met(plan.low, plan.high, n) {
         return NO_MATCH;
     }
@@ -74,7 +84,8 @@ pub fn match_planned(template: &[u8], plan: Plan, list: &[i32], room: &mut [u8])
         plan.kind,
         &blocks,
         plan.count,
-        list,
+        integers,
+        floats,
     );
     if !f.found {
         return NO_MATCH;
@@ -84,35 +95,72 @@ pub fn match_planned(template: &[u8], plan: Plan, list: &[i32], room: &mut [u8])
     DONE
 }
 
-// The same for one list, by a plan that is made for it.
-pub fn match_list(template: &[u8], list: &[i32], room: &mut [u8]) -> u8
-    ensures { λ r. ⌜ given r (now (room .exit)) ≡ matchAnswer (now (template .entry)) (now (list .entry)) (now (room .entry)) ⌝ }
+// The same for one list of this sort, by a plan that is made for it.
+fn match_any(template: &[u8], sort: Sort, integers: &[i32], floats: &[f64], room: &mut [u8]) -> u8
+    requires { ⌜ Lent (sort .family) (now integers) (now floats) ⌝ }
+    ensures { λ r. ⌜ given r (now (room .exit)) ≡ matchAnswer (sort .family) (now (template .entry)) (listOf (sort .family) (now (integers .entry)) (now (floats .entry))) (now (room .entry)) ⌝ }
 {
-    let plan = plan_of(template);
-    match_planned(template, plan, list, room)
+    let plan = plan_of(template, sort);
+    match_planned(template, plan, integers, floats, room)
+}
+
+// The number for this list of integers, and on a match the first witness in byte order at the front of the room, one byte for each element.
+pub fn match_list(template: &[u8], list: &[i32], room: &mut [u8]) -> u8
+    ensures { λ r. ⌜ given r (now (room .exit)) ≡ matchAnswer Family.Integers (now (template .entry)) (now (list .entry)) (now (room .entry)) ⌝ }
+{
+    let none = [0.0f64; 1];
+    let sort = Sort {
+        family: Family::Integers,
+    };
+    match_any(template, sort, list, &none[..0], room)
+}
+
+// The same for a list of floats.
+pub fn match_floats(template: &[u8], list: &[f64], room: &mut [u8]) -> u8
+    ensures { λ r. ⌜ given r (now (room .exit)) ≡ matchAnswer Family.Floats (now (template .entry)) (now (list .entry)) (now (room .entry)) ⌝ }
+{
+    let none = [0i32; 1];
+    let sort = Sort {
+        family: Family::Floats,
+    };
+    match_any(template, sort, &none[..0], list, room)
 }
 
 // Whether the offered witness obeys: 0 or 1, or the number of a refusal; by the plan of the template.
-pub fn judge_planned(template: &[u8], plan: Plan, list: &[i32], witness: &[u8]) -> u8
-    requires { ⌜ PlanOf (now template) plan ⌝ }
-    ensures { λ r. ⌜ r ≡ judgeAnswer (now (template .entry)) (now (list .entry)) (now (witness .entry)) ⌝ }
+pub fn judge_planned(
+    template: &[u8],
+    plan: Plan,
+    integers: &[i32],
+    floats: &[f64],
+    witness: &[u8],
+) -> u8
+    requires { ⌜ Planning (now template) plan (now integers) (now floats) ⌝ }
+    ensures { λ r. ⌜ ((f : Family) → PlanOf f (now (template .entry)) plan → Lent f (now (integers .entry)) (now (floats .entry)) → r ≡ judgeAnswer f (now (template .entry)) (listOf f (now (integers .entry)) (now (floats .entry))) (now (witness .entry))) ⌝ }
 {
     if TEMPLATE_MOST < template.len() {
         return TOO_LONG;
     }
-    if LIST_MOST < list.len() {
+    let size = integers.len() + floats.len();
+    if LIST_MOST < size {
         return LIST_TOO_LONG;
     }
-    if witness.len() != list.len() {
+    if witness.len() != size {
         return OTHER_LENGTH;
     }
     if plan.number != DONE {
         return plan.number;
     }
-    if !length_met(plan.low, plan.high, list.len()) {
+    if !length_met(plan.low, plan.high, size) {
         return NO_MATCH;
     }
-    let left = left_over(template, &plan.places, plan.members, list, witness);
+    let left = left_over(
+        template,
+        &plan.places,
+        plan.members,
+        integers,
+        floats,
+        witness,
+    );
     if left == WRONG {
         return NO_MATCH;
     }
@@ -122,10 +170,33 @@ pub fn judge_planned(template: &[u8], plan: Plan, list: &[i32], witness: &[u8]) 
     NO_MATCH
 }
 
-// The same for one list, by a plan that is made for it.
-pub fn judge(template: &[u8], list: &[i32], witness: &[u8]) -> u8
-    ensures { λ r. ⌜ r ≡ judgeAnswer (now (template .entry)) (now (list .entry)) (now (witness .entry)) ⌝ }
+// The same for one list of this sort, by a plan that is made for it.
+fn judge_any(template: &[u8], sort: Sort, integers: &[i32], floats: &[f64], witness: &[u8]) -> u8
+    requires { ⌜ Lent (sort .family) (now integers) (now floats) ⌝ }
+    ensures { λ r. ⌜ r ≡ judgeAnswer (sort .family) (now (template .entry)) (listOf (sort .family) (now (integers .entry)) (now (floats .entry))) (now (witness .entry)) ⌝ }
 {
-    let plan = plan_of(template);
-    judge_planned(template, plan, list, witness)
+    let plan = plan_of(template, sort);
+    judge_planned(template, plan, integers, floats, witness)
+}
+
+// Whether the witness offered for this list of integers obeys: 0 or 1, or the number of a refusal.
+pub fn judge(template: &[u8], list: &[i32], witness: &[u8]) -> u8
+    ensures { λ r. ⌜ r ≡ judgeAnswer Family.Integers (now (template .entry)) (now (list .entry)) (now (witness .entry)) ⌝ }
+{
+    let none = [0.0f64; 1];
+    let sort = Sort {
+        family: Family::Integers,
+    };
+    judge_any(template, sort, list, &none[..0], witness)
+}
+
+// The same for a list of floats.
+pub fn judge_floats(template: &[u8], list: &[f64], witness: &[u8]) -> u8
+    ensures { λ r. ⌜ r ≡ judgeAnswer Family.Floats (now (template .entry)) (now (list .entry)) (now (witness .entry)) ⌝ }
+{
+    let none = [0i32; 1];
+    let sort = Sort {
+        family: Family::Floats,
+    };
+    judge_any(template, sort, &none[..0], list, witness)
 }

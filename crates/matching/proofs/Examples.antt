@@ -1,18 +1,28 @@
 -- Assignments that obey and that do not, and first witnesses, computed on the definitions. The judged examples are rows of the demands. Assumes nothing.
 use mathlib.Core.Path.{_≡_, refl}
 use mathlib.Core.Bool.{true, false}
-use mathlib.Core.List.{[], _∷_}
+use mathlib.Core.List.{List, [], _∷_, _++_}
 use Prim.Native.Nat.{ℕ}
 use lib.IntN.{pos}
+use lib.Ieee.{Float, nan, binary64, ofBits, isNan, le, eq}
+use Rattle.format.specs.declared.Family.{Family}
+use Rattle.floats.specs.Bytes.{floatAt}
+use Rattle.floats.specs.Leaves.{oneFault, boundsFault as floatBoundsFault, floatMatches}
 use Rattle.facts.specs.Counting.{between, cnt}
 use Rattle.blocks.specs.Assignment.{allOnce}
 use Rattle.grammar.specs.Element.{Elem, leaf}
-use Rattle.grammar.specs.Leaf.{Leaf, single, any}
+use Rattle.grammar.specs.Leaf.{Leaf, leafHead, single, any}
+use Rattle.grammar.specs.FloatLeaf.{oneHead, floatRangeHead, floatHead}
 use Rattle.grammar.specs.Matches.{matchesBy, leafMatches}
+use Rattle.grammar.specs.Record.{countFault, groupHead, head}
+use Rattle.grammar.specs.Read.{ended, mapRead}
+use Rattle.grammar.specs.Reading.{uncounted, putFirst, thenMore, many, closed, opened, elem}
+use Rattle.grammar.specs.Whole.{numbered, putItem, thenItems, clashes, member, item, items, contents, bodyHere, templateHere, readTemplate}
 use Rattle.grammar.specs.Template.{noStar, star, grouped, spares, recordOf, setOf, superset, subset, anyLength, Template, template, membersOfGroup, membersOfItem, membersOfItems, membersOf}
 use Rattle.grammar.specs.Members.{memberHits}
 use Rattle.matching.specs.Obeys.{rightBytes, noneTwice, allSpare, withinBlock, starMet, groupTakes, itemTakes, someCut, cuts, bodyMet, lengthMet, obeysBy, obeys}
 use Rattle.matching.specs.Search.{just, put, orElse, tryEach, firstOf, from, membersCount, firstWitness}
+use Rattle.matching.specs.Answer.{given, written, matchRead, matchAnswer}
 
 anyValue : Elem Leaf
 anyValue = leaf any
@@ -24,11 +34,11 @@ value n = leaf (single (pos n))
 superset-of-one : Template Leaf
 superset-of-one = template anyLength (superset (anyValue ∷ []))
 
-superset-first : firstWitness superset-of-one (pos 7 ∷ pos 7 ∷ []) ≡ just (0 ∷ 255 ∷ [])
+superset-first : firstWitness Family.Integers superset-of-one (pos 7 ∷ pos 7 ∷ []) ≡ just (0 ∷ 255 ∷ [])
 unfolding superset-of-one anyValue membersOf between cnt allOnce matchesBy leafMatches memberHits rightBytes noneTwice bodyMet lengthMet obeysBy put orElse tryEach firstOf from membersCount firstWitness
 superset-first = refl
 
-superset-second-obeys : obeys superset-of-one (pos 7 ∷ pos 7 ∷ []) (255 ∷ 0 ∷ []) ≡ true
+superset-second-obeys : obeys Family.Integers superset-of-one (pos 7 ∷ pos 7 ∷ []) (255 ∷ 0 ∷ []) ≡ true
 unfolding superset-of-one anyValue membersOf between cnt allOnce matchesBy leafMatches memberHits rightBytes noneTwice bodyMet lengthMet obeysBy
 superset-second-obeys = refl
 
@@ -36,7 +46,7 @@ superset-second-obeys = refl
 subset-of-two : Template Leaf
 subset-of-two = template anyLength (subset (value 1 ∷ value 2 ∷ []))
 
-subset-twice : obeys subset-of-two (pos 1 ∷ pos 1 ∷ []) (0 ∷ 0 ∷ []) ≡ false
+subset-twice : obeys Family.Integers subset-of-two (pos 1 ∷ pos 1 ∷ []) (0 ∷ 0 ∷ []) ≡ false
 unfolding subset-of-two value membersOf between cnt allOnce matchesBy leafMatches memberHits rightBytes noneTwice bodyMet lengthMet obeysBy
 subset-twice = refl
 
@@ -47,15 +57,74 @@ plain = template anyLength (setOf (grouped (value 1 ∷ []) noStar))
 starred : Template Leaf
 starred = template anyLength (setOf (grouped (value 1 ∷ []) (star 1 1)))
 
-none-spare : obeys plain (pos 1 ∷ pos 2 ∷ []) (0 ∷ 255 ∷ []) ≡ false
+none-spare : obeys Family.Integers plain (pos 1 ∷ pos 2 ∷ []) (0 ∷ 255 ∷ []) ≡ false
 unfolding plain value membersOfGroup membersOf between cnt allOnce matchesBy leafMatches memberHits rightBytes noneTwice withinBlock starMet groupTakes bodyMet lengthMet obeysBy
 none-spare = refl
 
-one-spare : obeys starred (pos 1 ∷ pos 2 ∷ []) (0 ∷ 255 ∷ []) ≡ true
+one-spare : obeys Family.Integers starred (pos 1 ∷ pos 2 ∷ []) (0 ∷ 255 ∷ []) ≡ true
 unfolding starred value membersOfGroup membersOf between cnt allOnce matchesBy leafMatches memberHits rightBytes noneTwice withinBlock starMet groupTakes bodyMet lengthMet obeysBy
 one-spare = refl
 
 -- a record of may be cut at the end of the list
-cut-at-the-end : obeys (template anyLength (recordOf (spares 0 255 ∷ []))) (pos 1 ∷ []) (255 ∷ []) ≡ true
+cut-at-the-end : obeys Family.Integers (template anyLength (recordOf (spares 0 255 ∷ []))) (pos 1 ∷ []) (255 ∷ []) ≡ true
 unfolding membersOfItem membersOfItems membersOf between cnt allOnce matchesBy leafMatches memberHits rightBytes noneTwice allSpare itemTakes someCut cuts bodyMet lengthMet obeysBy
 cut-at-the-end = refl
+
+-- ---- floats, from the bytes on: a record of one item, a list of one float, a room of one byte
+
+abbrev record-of-one : List ℕ → List ℕ
+record-of-one e = 0x10 ∷ 0x01 ∷ e
+
+abbrev zero-bytes : List ℕ
+zero-bytes = 0x00 ∷ 0x00 ∷ 0x00 ∷ 0x00 ∷ 0x00 ∷ 0x00 ∷ 0x00 ∷ 0x00 ∷ []
+
+abbrev minus-zero-bytes : List ℕ
+minus-zero-bytes = 0x00 ∷ 0x00 ∷ 0x00 ∷ 0x00 ∷ 0x00 ∷ 0x00 ∷ 0x00 ∷ 0x80 ∷ []
+
+abbrev one-bytes : List ℕ
+one-bytes = 0x00 ∷ 0x00 ∷ 0x00 ∷ 0x00 ∷ 0x00 ∷ 0x00 ∷ 0xf0 ∷ 0x3f ∷ []
+
+abbrev infinity-bytes : List ℕ
+infinity-bytes = 0x00 ∷ 0x00 ∷ 0x00 ∷ 0x00 ∷ 0x00 ∷ 0x00 ∷ 0xf0 ∷ 0x7f ∷ []
+
+abbrev nan-bytes : List ℕ
+nan-bytes = 0x00 ∷ 0x00 ∷ 0x00 ∷ 0x00 ∷ 0x00 ∷ 0x00 ∷ 0xf8 ∷ 0x7f ∷ []
+
+abbrev minus-zero : Float
+minus-zero = ofBits binary64 0x8000000000000000
+
+abbrev infinity : Float
+infinity = ofBits binary64 0x7ff0000000000000
+
+nan-in-a-06 : matchAnswer Family.Floats (record-of-one (0x06 ∷ nan-bytes)) [] [] ≡ given 14 []
+unfolding ofBits isNan floatAt oneFault oneHead floatHead countFault head ended mapRead numbered thenItems clashes member item items contents bodyHere templateHere readTemplate matchRead matchAnswer
+nan-in-a-06 = refl
+
+any-matches-nan : matchAnswer Family.Floats (record-of-one (0x03 ∷ [])) (nan ∷ []) (0xee ∷ []) ≡ given 0 (0x00 ∷ [])
+unfolding floatHead membersOfItem countFault head ended mapRead uncounted opened elem numbered putItem thenItems clashes member item items contents bodyHere templateHere readTemplate matchRead matchAnswer floatMatches membersOfItems membersOf cnt matchesBy memberHits rightBytes noneTwice itemTakes someCut cuts bodyMet lengthMet obeysBy put orElse tryEach firstOf from membersCount firstWitness written
+any-matches-nan = refl
+
+infinity-is-itself : matchAnswer Family.Floats (record-of-one (0x06 ∷ infinity-bytes)) (infinity ∷ []) (0xee ∷ []) ≡ given 0 (0x00 ∷ [])
+unfolding ofBits isNan floatAt oneFault oneHead floatHead membersOfItem countFault head ended mapRead uncounted opened elem numbered putItem thenItems clashes member item items contents bodyHere templateHere readTemplate matchRead matchAnswer eq floatMatches membersOfItems membersOf cnt matchesBy memberHits rightBytes noneTwice itemTakes someCut cuts bodyMet lengthMet obeysBy put orElse tryEach firstOf from membersCount firstWitness written
+infinity-is-itself = refl
+
+minus-zero-between-zeros : matchAnswer Family.Floats (record-of-one (0x07 ∷ zero-bytes ++ minus-zero-bytes)) (minus-zero ∷ []) (0xee ∷ []) ≡ given 0 (0x00 ∷ [])
+unfolding ofBits isNan floatAt floatBoundsFault floatRangeHead floatHead membersOfItem countFault head ended mapRead uncounted opened elem numbered putItem thenItems clashes member item items contents bodyHere templateHere readTemplate matchRead matchAnswer le floatMatches membersOfItems membersOf cnt matchesBy memberHits rightBytes noneTwice itemTakes someCut cuts bodyMet lengthMet obeysBy put orElse tryEach firstOf from membersCount firstWitness written
+minus-zero-between-zeros = refl
+
+nan-is-not-one : matchAnswer Family.Floats (record-of-one (0x06 ∷ one-bytes)) (nan ∷ []) (0xee ∷ []) ≡ given 1 (0xee ∷ [])
+unfolding ofBits isNan floatAt oneFault oneHead floatHead membersOfItem countFault head ended mapRead uncounted opened elem numbered putItem thenItems clashes member item items contents bodyHere templateHere readTemplate matchRead matchAnswer eq floatMatches membersOfItems membersOf cnt matchesBy memberHits rightBytes noneTwice itemTakes someCut cuts bodyMet obeysBy put orElse tryEach firstOf from membersCount firstWitness written
+nan-is-not-one = refl
+
+nan-in-a-complement : matchAnswer Family.Floats (record-of-one (0x05 ∷ 0x01 ∷ 0x06 ∷ one-bytes)) (nan ∷ []) (0xee ∷ []) ≡ given 0 (0x00 ∷ [])
+unfolding ofBits isNan floatAt oneFault oneHead floatHead membersOfItem countFault groupHead head ended mapRead uncounted putFirst thenMore many closed opened elem numbered putItem thenItems clashes member item items contents bodyHere templateHere readTemplate matchRead matchAnswer eq floatMatches membersOfItems membersOf cnt matchesBy memberHits rightBytes noneTwice itemTakes someCut cuts bodyMet lengthMet obeysBy put orElse tryEach firstOf from membersCount firstWitness written
+nan-in-a-complement = refl
+
+-- each family has leaves of its own
+no-01-of-floats : matchAnswer Family.Floats (record-of-one (0x01 ∷ 0x01 ∷ 0x00 ∷ 0x00 ∷ 0x00 ∷ [])) [] [] ≡ given 4 []
+unfolding floatHead countFault head ended mapRead numbered thenItems clashes member item items contents bodyHere templateHere readTemplate matchRead matchAnswer
+no-01-of-floats = refl
+
+no-06-of-integers : matchAnswer Family.Integers (record-of-one (0x06 ∷ one-bytes)) [] [] ≡ given 4 []
+unfolding countFault head ended mapRead numbered thenItems clashes member item items contents bodyHere templateHere readTemplate matchRead matchAnswer leafHead
+no-06-of-integers = refl

@@ -8,14 +8,13 @@ use native.Mathlib.Omega.{arith}
 use borrow.Author.Tests.{eqb-true, eq-eqb, ne-eqb, le-ltb}
 use lib.Dec.{eqb}
 use lib.ListN.{length}
-use lib.IntN.{ℤ}
 use Rattle.byte_order.specs.ByteOrder.{earlier, First}
 use Rattle.facts.proofs.Cases.{and-left, and-right, one-of, same?, below}
 use Rattle.byte_order.proofs.ByteOrder.{earlier-total}
 use Rattle.grammar.specs.Element.{Elem}
-use Rattle.grammar.specs.Leaf.{Leaf}
 use Rattle.grammar.specs.Template.{Template, template, membersOf}
-use Rattle.grammar.specs.Matches.{matches}
+use Rattle.format.specs.declared.Family.{Family}
+use Rattle.grammar.specs.Family.{LeafOf, ElementOf, matchesOf}
 use Rattle.grammar.specs.Members.{memberHits}
 use Rattle.grammar.proofs.Members.{hits-low}
 use Rattle.matching.specs.Obeys.{spare, rightBytes, noneTwice, bodyMet, lengthMet, obeysBy, obeys, Obeys}
@@ -151,52 +150,52 @@ asc-from m (suc k) l =
 
 -- ---- what obeys is among them
 
-right-in : (es : List (Elem Leaf)) (xs : List ℤ) (w : List ℕ) → rightBytes matches es xs w ≡ true → AllIn (bytesOf (length es)) w × (length w ≡ length xs)
+right-in : {L X : Type 0} (hits : Elem L → X → Bool) (es : List (Elem L)) (xs : List X) (w : List ℕ) → rightBytes hits es xs w ≡ true → AllIn (bytesOf (length es)) w × (length w ≡ length xs)
 unfolding rightBytes AllIn
-right-in es [] [] h = (tt, refl)
-right-in es [] (b ∷ w) h = absurd (mathlib.Core.Bool.true≢false (sym h))
-right-in es (x ∷ xs) [] h = absurd (mathlib.Core.Bool.true≢false (sym h))
-right-in es (x ∷ xs) (b ∷ w) h =
-    let u = one-of (eqb b spare) (memberHits matches es b x) (and-left (eqb b spare || memberHits matches es b x) (rightBytes matches es xs w) h) in
-    let r = right-in es xs w (and-right (eqb b spare || memberHits matches es b x) (rightBytes matches es xs w) h) in
-    ((in-from 0 (length es) b (⊎-elim (λ (s : eqb b spare ≡ true). inl (eqb-true b spare s)) (λ (s : memberHits matches es b x ≡ true). let z = hits-low matches es b x s in inr (omega arith, omega arith)) u), r .0), ap suc (r .1))
+right-in hits es [] [] h = (tt, refl)
+right-in hits es [] (b ∷ w) h = absurd (mathlib.Core.Bool.true≢false (sym h))
+right-in hits es (x ∷ xs) [] h = absurd (mathlib.Core.Bool.true≢false (sym h))
+right-in hits es (x ∷ xs) (b ∷ w) h =
+    let u = one-of (eqb b spare) (memberHits hits es b x) (and-left (eqb b spare || memberHits hits es b x) (rightBytes hits es xs w) h) in
+    let r = right-in hits es xs w (and-right (eqb b spare || memberHits hits es b x) (rightBytes hits es xs w) h) in
+    ((in-from 0 (length es) b (⊎-elim (λ (s : eqb b spare ≡ true). inl (eqb-true b spare s)) (λ (s : memberHits hits es b x ≡ true). let z = hits-low hits es b x s in inr (omega arith, omega arith)) u), r .0), ap suc (r .1))
 
-obeys-in : (t : Template Leaf) (xs : List ℤ) (w : List ℕ) → obeys t xs w ≡ true → AllIn (bytesOf (membersCount t)) w × (length w ≡ length xs)
+obeys-in : (fam : Family) (t : Template (LeafOf fam)) (xs : List (ElementOf fam)) (w : List ℕ) → obeys fam t xs w ≡ true → AllIn (bytesOf (membersCount t)) w × (length w ≡ length xs)
 unfolding obeysBy membersCount
-obeys-in (template a b) xs w h =
-    right-in (membersOf b) xs w (and-left (rightBytes matches (membersOf b) xs w) (noneTwice (length (membersOf b)) w && (bodyMet b w && lengthMet a (length xs))) h)
+obeys-in fam (template a b) xs w h =
+    right-in (matchesOf fam) (membersOf b) xs w (and-left (rightBytes (matchesOf fam) (membersOf b) xs w) (noneTwice (length (membersOf b)) w && (bodyMet b w && lengthMet a (length xs))) h)
 
-pub obeys-size : (t : Template Leaf) (xs : List ℤ) (w : List ℕ) → obeys t xs w ≡ true → length w ≡ length xs
-obeys-size t xs w h = obeys-in t xs w h .1
+pub obeys-size : (fam : Family) (t : Template (LeafOf fam)) (xs : List (ElementOf fam)) (w : List ℕ) → obeys fam t xs w ≡ true → length w ≡ length xs
+obeys-size fam t xs w h = obeys-in fam t xs w h .1
 
 -- ---- the first witness
 
-pub witness-none : (t : Template Leaf) (xs : List ℤ) → ((v : List ℕ) → Obeys t xs v → ⊥) → membersCount t ≤ 32 → firstWitness t xs ≡ nothing
+pub witness-none : (fam : Family) (t : Template (LeafOf fam)) (xs : List (ElementOf fam)) → ((v : List ℕ) → Obeys fam t xs v → ⊥) → membersCount t ≤ 32 → firstWitness fam t xs ≡ nothing
 unfolding firstWitness
-witness-none t xs n few = go (firstOf (length xs) (bytesOf (membersCount t)) (obeys t xs)) refl
+witness-none fam t xs n few = go (firstOf (length xs) (bytesOf (membersCount t)) (obeys fam t xs)) refl
   where
-    go : (r : Maybe) → firstOf (length xs) (bytesOf (membersCount t)) (obeys t xs) ≡ r → r ≡ nothing
+    go : (r : Maybe) → firstOf (length xs) (bytesOf (membersCount t)) (obeys fam t xs) ≡ r → r ≡ nothing
     go nothing e = refl
-    go (just w) e = absurd (n w (first-of-all (length xs) (bytesOf (membersCount t)) (obeys t xs) w (asc-from 0 (membersCount t) (omega arith)) e .holds))
+    go (just w) e = absurd (n w (first-of-all (length xs) (bytesOf (membersCount t)) (obeys fam t xs) w (asc-from 0 (membersCount t) (omega arith)) e .holds))
 
-pub witness-first : (t : Template Leaf) (xs : List ℤ) (w : List ℕ) → First (Obeys t xs) w → membersCount t ≤ 32 → firstWitness t xs ≡ just w
+pub witness-first : (fam : Family) (t : Template (LeafOf fam)) (xs : List (ElementOf fam)) (w : List ℕ) → First (Obeys fam t xs) w → membersCount t ≤ 32 → firstWitness fam t xs ≡ just w
 unfolding firstWitness
-witness-first t xs w f few = go (firstOf (length xs) (bytesOf (membersCount t)) (obeys t xs)) refl
+witness-first fam t xs w f few = go (firstOf (length xs) (bytesOf (membersCount t)) (obeys fam t xs)) refl
   where
-    go : (r : Maybe) → firstOf (length xs) (bytesOf (membersCount t)) (obeys t xs) ≡ r → r ≡ just w
-    go nothing e = let i = obeys-in t xs w (f .holds) in absurd (none-of-all (length xs) (bytesOf (membersCount t)) (obeys t xs) e w (i .1) (i .0) (f .holds))
+    go : (r : Maybe) → firstOf (length xs) (bytesOf (membersCount t)) (obeys fam t xs) ≡ r → r ≡ just w
+    go nothing e = let i = obeys-in fam t xs w (f .holds) in absurd (none-of-all (length xs) (bytesOf (membersCount t)) (obeys fam t xs) e w (i .1) (i .0) (f .holds))
     go (just v) e =
-        let p = first-of-all (length xs) (bytesOf (membersCount t)) (obeys t xs) v (asc-from 0 (membersCount t) (omega arith)) e in
-        let i = obeys-in t xs w (f .holds) in
+        let p = first-of-all (length xs) (bytesOf (membersCount t)) (obeys fam t xs) v (asc-from 0 (membersCount t) (omega arith)) e in
+        let i = obeys-in fam t xs w (f .holds) in
         ap just (earlier-total v w (f .least v (p .holds)) (p .least w (i .1) (i .0) (f .holds)))
 
 -- and the other way: what the search gives is the first that obeys
-pub first-witness : (t : Template Leaf) (xs : List ℤ) (w : List ℕ) → membersCount t ≤ 32 → firstWitness t xs ≡ just w → First (Obeys t xs) w
+pub first-witness : (fam : Family) (t : Template (LeafOf fam)) (xs : List (ElementOf fam)) (w : List ℕ) → membersCount t ≤ 32 → firstWitness fam t xs ≡ just w → First (Obeys fam t xs) w
 unfolding firstWitness
-first-witness t xs w few e =
-    let p = first-of-all (length xs) (bytesOf (membersCount t)) (obeys t xs) w (asc-from 0 (membersCount t) (omega arith)) e in
-    record { holds = p .holds; least = λ v o. let i = obeys-in t xs v o in p .least v (i .1) (i .0) o }
+first-witness fam t xs w few e =
+    let p = first-of-all (length xs) (bytesOf (membersCount t)) (obeys fam t xs) w (asc-from 0 (membersCount t) (omega arith)) e in
+    record { holds = p .holds; least = λ v o. let i = obeys-in fam t xs v o in p .least v (i .1) (i .0) o }
 
-pub none-witness : (t : Template Leaf) (xs : List ℤ) → firstWitness t xs ≡ nothing → (v : List ℕ) → Obeys t xs v → ⊥
+pub none-witness : (fam : Family) (t : Template (LeafOf fam)) (xs : List (ElementOf fam)) → firstWitness fam t xs ≡ nothing → (v : List ℕ) → Obeys fam t xs v → ⊥
 unfolding firstWitness
-none-witness t xs e v o = let i = obeys-in t xs v o in none-of-all (length xs) (bytesOf (membersCount t)) (obeys t xs) e v (i .1) (i .0) o
+none-witness fam t xs e v o = let i = obeys-in fam t xs v o in none-of-all (length xs) (bytesOf (membersCount t)) (obeys fam t xs) e v (i .1) (i .0) o

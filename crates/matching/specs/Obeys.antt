@@ -14,8 +14,8 @@
 -- bodyMet b w      == what the kind of the body asks besides
 -- lengthMet a n    == a list of n elements meets the length attribute a
 -- obeysBy hits t xs w == w is an assignment of the list xs that obeys the rules of the template t
--- obeys t xs w     == the same for integers
--- Obeys t xs w    <-> the same as a statement
+-- obeys f t xs w   == the same for the family f
+-- Obeys f t xs w  <-> the same as a statement
 -- Assumes nothing: these are definitions.
 use mathlib.Core.Path.{_≡_}
 use mathlib.Core.Bool.{Bool, true, false, _&&_, _||_}
@@ -23,13 +23,12 @@ use mathlib.Core.List.{List, [], _∷_}
 use Prim.Native.Nat.{ℕ, zero, suc, _+_}
 use lib.Dec.{eqb, leb}
 use lib.ListN.{length, take, drop}
-use lib.IntN.{ℤ}
 use Rattle.facts.specs.Counting.{between, cnt}
 use Rattle.blocks.specs.Assignment.{allOnce}
 use Rattle.grammar.specs.Element.{Elem}
-use Rattle.grammar.specs.Leaf.{Leaf}
 use Rattle.grammar.specs.Template.{Star, noStar, star, Group, grouped, Item, one, spares, permutation, Body, recordOf, setOf, superset, subset, Length, anyLength, between as lengthBetween, Template, template, membersOfItem, membersOf}
-use Rattle.grammar.specs.Matches.{matches}
+use Rattle.format.specs.declared.Family.{Family}
+use Rattle.grammar.specs.Family.{LeafOf, ElementOf, matchesOf}
 use Rattle.grammar.specs.Members.{memberHits}
 
 abbrev pub spare : ℕ
@@ -102,8 +101,8 @@ obeysBy hits (template a b) xs w =
     && (bodyMet b w
     && lengthMet a (length xs)))
 
-abbrev pub obeys : Template Leaf → List ℤ → List ℕ → Bool
-obeys t xs w = obeysBy matches t xs w
+abbrev pub obeys : (f : Family) → Template (LeafOf f) → List (ElementOf f) → List ℕ → Bool
+obeys f t xs w = obeysBy (matchesOf f) t xs w
 
-abbrev pub Obeys : Template Leaf → List ℤ → List ℕ → Type 0
-Obeys t xs w = obeys t xs w ≡ true
+abbrev pub Obeys : (f : Family) → Template (LeafOf f) → List (ElementOf f) → List ℕ → Type 0
+Obeys f t xs w = obeys f t xs w ≡ true

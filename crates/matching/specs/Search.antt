@@ -7,14 +7,14 @@
 -- from m n        == m, m + 1, .. : n numbers, and 255 after them
 -- bytesOf k       == the numbers of k members, and 255, ascending
 -- membersCount t == how many members t has
--- firstWitness t xs == the first witness in byte order that obeys, or nothing
+-- firstWitness f t xs == the first witness in byte order that obeys, or nothing
 -- Assumes nothing: these are definitions.
 use mathlib.Core.Bool.{Bool, cond}
 use mathlib.Core.List.{List, [], _∷_}
 use Prim.Native.Nat.{ℕ, zero, suc}
 use lib.ListN.{length}
-use lib.IntN.{ℤ}
-use Rattle.grammar.specs.Leaf.{Leaf}
+use Rattle.format.specs.declared.Family.{Family}
+use Rattle.grammar.specs.Family.{LeafOf, ElementOf}
 use Rattle.grammar.specs.Template.{Template, template, membersOf}
 use Rattle.matching.specs.Obeys.{spare, obeys}
 
@@ -45,8 +45,8 @@ from m (suc n) = m ∷ from (suc m) n
 abbrev pub bytesOf : ℕ → List ℕ
 bytesOf k = from 0 k
 
-unfoldable pub membersCount : Template Leaf → ℕ
+unfoldable pub membersCount : {L : Type 0} → Template L → ℕ
 membersCount (template a b) = length (membersOf b)
 
-unfoldable pub firstWitness : Template Leaf → List ℤ → Maybe
-firstWitness t xs = firstOf (length xs) (bytesOf (membersCount t)) (obeys t xs)
+unfoldable pub firstWitness : (f : Family) → Template (LeafOf f) → List (ElementOf f) → Maybe
+firstWitness f t xs = firstOf (length xs) (bytesOf (membersCount t)) (obeys f t xs)

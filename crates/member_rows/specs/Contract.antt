@@ -1,20 +1,19 @@
 -- What the functions say.
--- RowsOf es xs rows <-> bit m of row e says whether member m of es matches element e of xs; every other bit is clear
+-- RowsOf f es xs rows <-> bit m of row e says whether member m of es matches element e of xs; every other bit is clear
 -- Assumes nothing: these are definitions.
 use mathlib.Core.Path.{_≡_}
 use mathlib.Core.Bool.{false}
 use mathlib.Core.List.{List}
 use Prim.Native.Nat.{ℕ, _≤_, _<_}
 use lib.ListN.{length, getD}
-use lib.IntN.{ℤ, pos}
 use Rattle.grammar.specs.Element.{Elem}
-use Rattle.grammar.specs.Leaf.{Leaf}
-use Rattle.grammar.specs.Matches.{matches}
+use Rattle.format.specs.declared.Family.{Family}
+use Rattle.grammar.specs.Family.{LeafOf, ElementOf, noElement, matchesOf}
 use Rattle.grammar.specs.Members.{memberHits}
 use Rattle.rows.specs.Rows.{may}
 
-pub record RowsOf (es : List (Elem Leaf)) (xs : List ℤ) (rows : List ℕ) : Type 0 where
+pub record RowsOf (f : Family) (es : List (Elem (LeafOf f))) (xs : List (ElementOf f)) (rows : List ℕ) : Type 0 where
   pub size : length rows ≡ 32
-  pub right : (m e : ℕ) → m < length es → e < length xs → may rows m e ≡ memberHits matches es m (getD xs e (pos 0))
+  pub right : (m e : ℕ) → m < length es → e < length xs → may rows m e ≡ memberHits (matchesOf f) es m (getD xs e (noElement f))
   pub noMember : (m e : ℕ) → length es ≤ m → may rows m e ≡ false
   pub noElement : (m e : ℕ) → length xs ≤ e → may rows m e ≡ false

@@ -12,12 +12,13 @@ use Rattle.facts.proofs.Cases.{below}
 use Rattle.ranges.specs.Shown.{view, Became}
 use Rattle.ranges.specs.Spans.{Span, span, holds, Ascending, joinAll, gaps}
 use Rattle.ranges.proofs.JoinsAndGaps.{proper-of, ascending-joined, ascending-gaps}
+use Rattle.format.specs.declared.Family.{Family}
 use Rattle.grammar.specs.Element.{leaves}
 use Rattle.forms.proofs.Accepts.{elem-facts}
-use Rattle.elements.specs.Leaves.{LeafHere, BoundsHere}
-use Rattle.elements.proofs.ElementByKind as by-kind
+use Rattle.leaves.specs.Leaves.{LeafHere, BoundsHere}
+use Rattle.leaves.proofs.ElementByKind as by-kind
 use Rattle.normal.specs.Contract.{placeIn, rangesIn, weight, Here, HereSet, AnySet, Room, MembersFrom, HereFrom, More, GatheredAll, GatheredHere}
-use Rattle.normal.proofs.Walks.{group-fits, leaf-there, leaf-here-set, list-here-set, group-few, complement-here-set, Chain, chain-start, chain-here, chain-here-leaves, chain-step, chain-end, chain-short}
+use Rattle.normal.proofs.Walks.{group-fits, leaf-there, kind-most, leaf-here-set, list-here-set, group-few, complement-here-set, Chain, chain-start, chain-here, chain-here-leaves, chain-step, chain-end, chain-short}
 use Rattle.normal.proofs.Gathers.{packed, more-none, more-and, more-one, more-from, part-view, more-back}
 
 -- ---- several element templates
@@ -101,8 +102,7 @@ module _ (t : List ℕ) (from left : ℕ) (los his : List ℤ) (h : HereFrom t f
   -- a list or a complement
   pub kinds : {A : Type 0} → (kind ≡ 4 → A) → (kind ≡ 5 → A) → A
   kinds {A} four five =
-      let e = h .here in
-      let most = by-kind.kind-most t at left (e .leavesBefore) (e .found) (e .after) (e .rest) (e .reads) in
+      let most = kind-most t at left (h .here) in
       ⊎-elim
       (λ (l : kind < 5). four (omega (arith, h .group)))
       (λ (l : 5 ≤ kind). five (omega (arith, most)))
@@ -123,7 +123,7 @@ module _ (t : List ℕ) (from left : ℕ) (los his : List ℤ) (h : HereFrom t f
       go : (c : Bool) → kind ≡ cond c 5 4 → MembersFrom t (from + 2) (getD t (at + 1) 0) (left - 1) los his
       go c e =
           let b = h .here in
-          let m = by-kind.by-group t at left (b .leavesBefore) (b .found) (b .after) (b .rest) (b .reads) c e in
+          let m = by-kind.by-group Family.Integers t at left (b .leavesBefore) (b .found) (b .after) (b .rest) (b .reads) c e in
           record {
             members = record {
               inside = subst (λ (p : ℕ). p ≤ length t) (sym next-place) (m .fits);

@@ -6,10 +6,10 @@ ghost use lib.ListN.{length};
 ghost use Rattle.ranges.specs.Shown.{view, Became};
 ghost use Rattle.ranges.specs.Spans.{Proper, joinAll, gaps as gapsOf};
 ghost use Rattle.normal.specs.Contract.{HereFrom, MembersFrom, GatheredHere, GatheredAll};
-use elements::leaf::bounds_at;
 use format::COUNT_SIZE;
 use format::LIST;
 use format::ONE_MORE;
+use leaves::bounds_at;
 use ranges::gaps;
 use sweeping::swept;
 

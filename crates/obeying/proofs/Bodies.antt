@@ -18,7 +18,6 @@ use Rattle.blocks.specs.Numbers.{block, blockIn, blocksIn}
 use Rattle.blocks.specs.Pieces.{Cuts, Passing}
 use Rattle.blocks.proofs.Assignments.{once-test, test-once}
 use Rattle.blocks.proofs.FirstLists.{passing-holds}
-use Rattle.grammar.specs.Leaf.{Leaf}
 use Rattle.grammar.specs.Template.{grouped, Body, recordOf, setOf, superset, subset, membersOf, membersOfGroup}
 use Rattle.grammar.specs.Blocks.{minOf, maxOf, blockOfGroup, blocksOf, bodyKind}
 use Rattle.matching.specs.Obeys.{bodyMet}
@@ -51,7 +50,7 @@ first-block zero vs b q = absurd (none-one b q)
 first-block (suc count) [] b q = absurd (none-one b q)
 first-block (suc count) (v ∷ vs) b q = cc
 
-module _ (b : Body Leaf) (w : List ℕ) (left : ℕ) (s : Spread b w left) where
+module _ {L : Type 0} (b : Body L) (w : List ℕ) (left : ℕ) (s : Spread b w left) where
   abbrev k : ℕ
   k = length (membersOf b)
 
@@ -95,7 +94,7 @@ module _ (w : List ℕ) (left : ℕ) (short : length w ≤ 32) (one : Block) (r 
   told-as : (k min max : ℕ) → one ≡ block 0 k min max → r ≡ (eqb left 0 && (leb (k + min) (length w) && leb (length w) (k + max)))
   told-as k min max q = told ∙ rw q refl
 
-  pub one-kind : (kind : ℕ) (bs : List Block) (b : Body Leaf) → Says kind bs b → Spread b w left → (kind ≡ 0x13 → ⊥) → (kind ≡ 0x10 → ⊥) → ((c : Block) → bs ≡ c ∷ [] → one ≡ c) → r ≡ bodyMet b w
+  pub one-kind : {L : Type 0} (kind : ℕ) (bs : List Block) (b : Body L) → Says kind bs b → Spread b w left → (kind ≡ 0x13 → ⊥) → (kind ≡ 0x10 → ⊥) → ((c : Block) → bs ≡ c ∷ [] → one ≡ c) → r ≡ bodyMet b w
   unfolding bodyKind blocksOf bodyMet membersOf membersOfGroup blockOfGroup
   one-kind kind bs (recordOf is) says s n13 n10 at = absurd (n10 (says .kind-is))
   one-kind kind bs (subset es) says s n13 n10 at = absurd (n13 (says .kind-is))
@@ -117,7 +116,7 @@ module _ (w : List ℕ) (left : ℕ) (short : length w ≤ 32) (one : Block) (r 
 
 -- ---- a record of: its blocks; a subset: no spare element
 
-pub record-kind : (kind : ℕ) (bs : List Block) (b : Body Leaf) (w : List ℕ) (left : ℕ) (r : Bool) → Says kind bs b → Spread b w left → kind ≡ 0x10 → Passing (Cuts anyPair bs 0 (length w) w) r → r ≡ bodyMet b w
+pub record-kind : {L : Type 0} (kind : ℕ) (bs : List Block) (b : Body L) (w : List ℕ) (left : ℕ) (r : Bool) → Says kind bs b → Spread b w left → kind ≡ 0x10 → Passing (Cuts anyPair bs 0 (length w) w) r → r ≡ bodyMet b w
 unfolding bodyKind blocksOf bodyMet membersOf
 record-kind kind bs (recordOf is) w left r says s q h =
     let f = s .few in
@@ -128,7 +127,7 @@ record-kind kind bs (setOf g) w left r says s q h = let z = sym q ∙ says .kind
 record-kind kind bs (superset es) w left r says s q h = let z = sym q ∙ says .kind-is in absurd (omega arith)
 record-kind kind bs (subset es) w left r says s q h = let z = sym q ∙ says .kind-is in absurd (omega arith)
 
-pub subset-kind : (kind : ℕ) (bs : List Block) (b : Body Leaf) (w : List ℕ) (r : Bool) → Says kind bs b → kind ≡ 0x13 → r ≡ eqb (cnt 255 w) 0 → r ≡ bodyMet b w
+pub subset-kind : {L : Type 0} (kind : ℕ) (bs : List Block) (b : Body L) (w : List ℕ) (r : Bool) → Says kind bs b → kind ≡ 0x13 → r ≡ eqb (cnt 255 w) 0 → r ≡ bodyMet b w
 unfolding bodyKind bodyMet
 subset-kind kind bs (subset es) w r says q h = h
 subset-kind kind bs (recordOf is) w r says q h = let z = sym q ∙ says .kind-is in absurd (omega arith)

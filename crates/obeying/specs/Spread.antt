@@ -9,16 +9,15 @@ use Prim.Native.Nat.{ℕ, _≤_, _<_}
 use lib.ListN.{length, getD}
 use Rattle.facts.specs.Counting.{cnt}
 use Rattle.blocks.specs.declared.Block.{Block}
-use Rattle.grammar.specs.Leaf.{Leaf}
 use Rattle.grammar.specs.Template.{Body, membersOf}
 use Rattle.grammar.specs.Blocks.{blocksOf, bodyKind}
 use Rattle.pairs.specs.Pairs.{Left}
 
-pub record Says (kind : ℕ) (bs : List Block) (b : Body Leaf) : Type 0 where
+pub record Says {L : Type 0} (kind : ℕ) (bs : List Block) (b : Body L) : Type 0 where
   pub kind-is : kind ≡ bodyKind b
   pub cut : bs ≡ blocksOf b
 
-pub record Spread (b : Body Leaf) (w : List ℕ) (left : ℕ) : Type 0 where
+pub record Spread {L : Type 0} (b : Body L) (w : List ℕ) (left : ℕ) : Type 0 where
   pub few : length (membersOf b) ≤ 32
   pub bytes : (e : ℕ) → e < length w → (getD w e 0 ≡ 255) ⊎ (getD w e 0 < length (membersOf b))
   pub once : (m : ℕ) → m < length (membersOf b) → cnt m w ≤ 1

@@ -6,7 +6,6 @@ use mathlib.Core.List.{List}
 use Prim.Native.Nat.{ℕ, _+_, _≤_, _<_}
 use native.Mathlib.Omega.{arith}
 use lib.Dec.{eqb}
-use lib.IntN.{ℤ, pos}
 use lib.ListN.{length, getD, take, drop, take-append-drop}
 use lib.Seq.{slice, take-length, slice-empty}
 use Rattle.facts.specs.Counting.{between, oneIf, cnt}
@@ -17,20 +16,20 @@ use Rattle.facts.proofs.Slices.{cnt-more}
 use Rattle.masks.specs.Masks.{bit, Flipped}
 use Rattle.masks.proofs.OneByOne.{flipped-out}
 use Rattle.grammar.specs.Element.{Elem}
-use Rattle.grammar.specs.Leaf.{Leaf}
-use Rattle.grammar.specs.Matches.{matches}
+use Rattle.format.specs.declared.Family.{Family}
+use Rattle.grammar.specs.Family.{LeafOf, ElementOf, noElement, matchesOf}
 use Rattle.grammar.specs.Members.{memberHits}
 use Rattle.grammar.proofs.Members.{hits-low}
 use Rattle.pairs.specs.Pairs.{Right, Left, Paired, right}
 
-pub record Going (es : List (Elem Leaf)) (xs : List ℤ) (w : List ℕ) (e left : ℕ) : Type 0 where
-  pub bytes : (i : ℕ) → i < e → (getD w i 0 ≡ 255) ⊎ (memberHits matches es (getD w i 0) (getD xs i (pos 0)) ≡ true)
+pub record Going (fam : Family) (es : List (Elem (LeafOf fam))) (xs : List (ElementOf fam)) (w : List ℕ) (e left : ℕ) : Type 0 where
+  pub bytes : (i : ℕ) → i < e → (getD w i 0 ≡ 255) ⊎ (memberHits (matchesOf fam) es (getD w i 0) (getD xs i (noElement fam)) ≡ true)
   pub few : (m : ℕ) → m < length es → cnt m (slice 0 e w) ≤ 1
   pub left-over : Left (length es) (slice 0 e w) left
 
-pub going-start : (es : List (Elem Leaf)) (xs : List ℤ) (w : List ℕ) (left : ℕ) → ((m : ℕ) → bit left m ≡ between 0 (length es) m) → Going es xs w 0 left
+pub going-start : (fam : Family) (es : List (Elem (LeafOf fam))) (xs : List (ElementOf fam)) (w : List ℕ) (left : ℕ) → ((m : ℕ) → bit left m ≡ between 0 (length es) m) → Going fam es xs w 0 left
 unfolding cnt
-going-start es xs w left span = record {
+going-start fam es xs w left span = record {
   bytes = λ i l. absurd (omega arith);
   few = λ m l. let z = none m in omega arith;
   left-over = record {
@@ -42,17 +41,17 @@ going-start es xs w left span = record {
     none : (m : ℕ) → cnt m (slice 0 0 w) ≡ 0
     none m = ap (λ (v : List ℕ). cnt m v) (slice-empty 0 w)
 
-module _ (es : List (Elem Leaf)) (xs : List ℤ) (w : List ℕ) (e left : ℕ) (g : Going es xs w e left) (size : length w ≡ length xs) (low : e < length xs) (k : length es ≤ 32) where
+module _ (fam : Family) (es : List (Elem (LeafOf fam))) (xs : List (ElementOf fam)) (w : List ℕ) (e left : ℕ) (g : Going fam es xs w e left) (size : length w ≡ length xs) (low : e < length xs) (k : length es ≤ 32) where
   abbrev x : ℕ
   x = getD w e 0
 
   more : (m : ℕ) → cnt m (slice 0 (e + 1) w) ≡ cnt m (slice 0 e w) + oneIf (eqb x m)
   more m = cnt-more m 0 e w (omega arith) (omega arith)
 
-  bytes-more : (x ≡ 255) ⊎ (memberHits matches es x (getD xs e (pos 0)) ≡ true) → (i : ℕ) → i < e + 1 → (getD w i 0 ≡ 255) ⊎ (memberHits matches es (getD w i 0) (getD xs i (pos 0)) ≡ true)
+  bytes-more : (x ≡ 255) ⊎ (memberHits (matchesOf fam) es x (getD xs e (noElement fam)) ≡ true) → (i : ℕ) → i < e + 1 → (getD w i 0 ≡ 255) ⊎ (memberHits (matchesOf fam) es (getD w i 0) (getD xs i (noElement fam)) ≡ true)
   bytes-more h i l = ⊎-elim (λ (z : i ≡ e). rw z h) (λ (z : i ≡ e → ⊥). g .bytes i (omega arith)) (same? i e)
 
-  pub going-spare : x ≡ 255 → Going es xs w (e + 1) left
+  pub going-spare : x ≡ 255 → Going fam es xs w (e + 1) left
   going-spare q = record {
     bytes = bytes-more (inl q);
     few = λ m l. let z = same m l in let f = g .few m l in omega arith;
@@ -65,7 +64,7 @@ module _ (es : List (Elem Leaf)) (xs : List ℤ) (w : List ℕ) (e left : ℕ) (
       same : (m : ℕ) → m < length es → cnt m (slice 0 (e + 1) w) ≡ cnt m (slice 0 e w)
       same m l = let a = more m in let b = miss x m (λ p. omega arith) in omega arith
 
-  pub going-member : (next : ℕ) → bit left x ≡ true → Flipped (bit left) x (bit next) → memberHits matches es x (getD xs e (pos 0)) ≡ true → Going es xs w (e + 1) next
+  pub going-member : (next : ℕ) → bit left x ≡ true → Flipped (bit left) x (bit next) → memberHits (matchesOf fam) es x (getD xs e (noElement fam)) ≡ true → Going fam es xs w (e + 1) next
   going-member next here f h = record {
     bytes = bytes-more (inr h);
     few = λ m l. ⊎-elim
@@ -92,14 +91,14 @@ module _ (es : List (Elem Leaf)) (xs : List ℤ) (w : List ℕ) (e left : ℕ) (
       absent m z = subst (λ (j : ℕ). cnt j (slice 0 e w) ≡ 0) z (g .left-over .only x here .1)
 
   -- the byte is no member's number
-  pub stop-high : 32 ≤ x → (x ≡ 255 → ⊥) → Right es xs w → ⊥
-  stop-high l n r = ⊎-elim n (λ (h : memberHits matches es x (getD xs e (pos 0)) ≡ true). let z = hits-low matches es x (getD xs e (pos 0)) h in omega arith) (r .bytes e low)
+  pub stop-high : 32 ≤ x → (x ≡ 255 → ⊥) → Right fam es xs w → ⊥
+  stop-high l n r = ⊎-elim n (λ (h : memberHits (matchesOf fam) es x (getD xs e (noElement fam)) ≡ true). let z = hits-low (matchesOf fam) es x (getD xs e (noElement fam)) h in omega arith) (r .bytes e low)
 
   -- the member is not left: it is none, or stands before
-  pub stop-gone : bit left x ≡ false → (x ≡ 255 → ⊥) → Right es xs w → ⊥
+  pub stop-gone : bit left x ≡ false → (x ≡ 255 → ⊥) → Right fam es xs w → ⊥
   stop-gone gone n r = ⊎-elim n
-      (λ (h : memberHits matches es x (getD xs e (pos 0)) ≡ true).
-      let l = hits-low matches es x (getD xs e (pos 0)) h in
+      (λ (h : memberHits (matchesOf fam) es x (getD xs e (noElement fam)) ≡ true).
+      let l = hits-low (matchesOf fam) es x (getD xs e (noElement fam)) h in
       let once = r .once x l in
       let a = more x in
       let b = hit x x refl in
@@ -109,11 +108,11 @@ module _ (es : List (Elem Leaf)) (xs : List ℤ) (w : List ℕ) (e left : ℕ) (
       (r .bytes e low)
 
   -- the member does not match
-  pub stop-miss : memberHits matches es x (getD xs e (pos 0)) ≡ false → (x ≡ 255 → ⊥) → Right es xs w → ⊥
-  stop-miss m n r = ⊎-elim n (λ (h : memberHits matches es x (getD xs e (pos 0)) ≡ true). clash h m) (r .bytes e low)
+  pub stop-miss : memberHits (matchesOf fam) es x (getD xs e (noElement fam)) ≡ false → (x ≡ 255 → ⊥) → Right fam es xs w → ⊥
+  stop-miss m n r = ⊎-elim n (λ (h : memberHits (matchesOf fam) es x (getD xs e (noElement fam)) ≡ true). clash h m) (r .bytes e low)
 
-pub going-end : (es : List (Elem Leaf)) (xs : List ℤ) (w : List ℕ) (e left : ℕ) → length w ≡ length xs → e ≡ length xs → Going es xs w e left → Paired es xs w left
-going-end es xs w e left size z g =
+pub going-end : (fam : Family) (es : List (Elem (LeafOf fam))) (xs : List (ElementOf fam)) (w : List ℕ) (e left : ℕ) → length w ≡ length xs → e ≡ length xs → Going fam es xs w e left → Paired fam es xs w left
+going-end fam es xs w e left size z g =
     let whole : slice 0 e w ≡ w = ap (λ (j : ℕ). slice 0 j w) (z ∙ sym size) ∙ take-length w in
     right
     (record { bytes = λ i l. g .bytes i (omega arith); once = λ m l. subst (λ (v : List ℕ). cnt m v ≤ 1) whole (g .few m l) })

@@ -7,10 +7,10 @@ use Prim.Native.Nat.{ℕ}
 use borrow.Fn.Kinds.{Dens, resT, endedOf}
 use contract.Lifetimes.{Lfts}
 use denote.Triple.Clauses.{AtExit}
-use lib.IntN.{ℤ}
 use Rattle.facts.proofs.Cases.{holds?, clash}
 use Rattle.grammar.specs.Element.{Elem}
-use Rattle.grammar.specs.Leaf.{Leaf}
+use Rattle.format.specs.declared.Family.{Family}
+use Rattle.grammar.specs.Family.{LeafOf, ElementOf}
 use Rattle.masks.specs.Masks.{bit}
 use Rattle.masks.proofs.Masks.{bits-same}
 use Rattle.pairs.specs.Pairs.{Left, Paired, right, wrong}
@@ -26,12 +26,16 @@ left-same k w a b p q = bits-same a b (λ m. ⊎-elim
     (λ (h : bit a m ≡ false). ⊎-elim (λ (i : bit b m ≡ true). absurd (clash (one-way k w b a m q p i) h)) (λ (i : bit b m ≡ false). h ∙ sym i) (holds? (bit b m)))
     (holds? (bit a m)))
 
-paired-same : (es : List (Elem Leaf)) (xs : List ℤ) (w : List ℕ) (r r′ : ℕ) → Paired es xs w r → Paired es xs w r′ → r ≡ r′
-paired-same es xs w r r′ (right a b) (right c d) = left-same _ w r r′ b d
-paired-same es xs w r r′ (right a b) (wrong n q) = absurd (n a)
-paired-same es xs w r r′ (wrong n q) (right a b) = absurd (n a)
-paired-same es xs w r r′ (wrong n q) (wrong n′ q′) = q ∙ sym q′
+paired-same : (fam : Family) (es : List (Elem (LeafOf fam))) (xs : List (ElementOf fam)) (w : List ℕ) (r r′ : ℕ) → Paired fam es xs w r → Paired fam es xs w r′ → r ≡ r′
+paired-same fam es xs w r r′ (right a b) (right c d) = left-same _ w r r′ b d
+paired-same fam es xs w r r′ (right a b) (wrong n q) = absurd (n a)
+paired-same fam es xs w r r′ (wrong n q) (right a b) = absurd (n a)
+paired-same fam es xs w r r′ (wrong n q) (wrong n′ q′) = q ∙ sym q′
 
-pub left-over-unique : (κs : Lfts 4) (a : Dens κs left-over-kinds.ps) (r r′ : resT left-over-kinds.r κs .Denot) (s s′ : AtExit (endedOf 4 left-over-kinds.ps left-over-kinds.r) κs)
+pub left-over-unique : (κs : Lfts 5) (a : Dens κs left-over-kinds.ps) (r r′ : resT left-over-kinds.r κs .Denot) (s s′ : AtExit (endedOf 5 left-over-kinds.ps left-over-kinds.r) κs)
     → left-over-reads.Pre κs a → left-over-reads.Post κs a r s → left-over-reads.Post κs a r′ s′ → r ≡ r′
-left-over-unique κs a r r′ s s′ w p q = paired-same (w .0 .who) _ _ r r′ (p (w .0 .who) (w .0 .stands)) (q (w .0 .who) (w .0 .stands))
+left-over-unique κs a r r′ s s′ w p q =
+    let served = w .0 in
+    let who = served .placed .who in
+    let stands = served .placed .stands in
+    paired-same (served .family) who _ _ r r′ (p (served .family) (served .lent) who stands) (q (served .family) (served .lent) who stands)

@@ -9,6 +9,7 @@ use lib.ListN.{length, take, replicate}
 use Rattle.integers.specs.Integer.{signed, intAt}
 use Rattle.format.specs.Bounds.{badBounds}
 use Rattle.blocks.specs.Numbers.{numberOf, blockIn, numbersOf, blocksIn}
+use Rattle.format.specs.declared.Family.{Family}
 use Rattle.grammar.specs.Element.{leaf}
 use Rattle.grammar.specs.Leaf.{single, any, singleHead, leafHead}
 use Rattle.grammar.specs.Record.{countFault, boundsFault, groupHead, head}
@@ -26,7 +27,7 @@ bytes = 0x30 ∷ 1 ∷ 3 ∷ 0x11 ∷ 2 ∷ 0x03 ∷ 0x01 ∷ 1 ∷ 0 ∷ 0 ∷ 
 plan : Plan
 plan = record { number = 0; low = 1; high = 3; kind = 0x11; count = 1; members = 2; blocks = 512 ∷ replicate 31 0; places = 5 ∷ 6 ∷ replicate 30 0 }
 
-set-planned : PlanOf bytes plan
+set-planned : PlanOf Family.Integers bytes plan
 unfolding bytes plan readTemplate templateHere bodyHere contents members member numbered thenMembers putMember elem opened head groupHead leafHead singleHead boundsFault countFault clashes uncounted ended mapRead intAt signed blocksOf blockOfGroup bodyKind membersOf membersOfGroup numberOf blockIn numbersOf blocksIn Standing
 set-planned =
     aPlan (between 1 3) (setOf (grouped (leaf any ∷ leaf (single (lib.IntN.pos 1)) ∷ []) noStar)) refl refl
@@ -47,6 +48,6 @@ set-planned =
 plan-of-none : Plan
 plan-of-none = record { number = 3; low = 0; high = 0; kind = 0; count = 0; members = 0; blocks = replicate 32 0; places = replicate 32 0 }
 
-none-planned : PlanOf [] plan-of-none
+none-planned : (fam : Family) → PlanOf fam [] plan-of-none
 unfolding plan-of-none readTemplate templateHere bodyHere ended
-none-planned = refusedPlan 3 refl (omega arith) refl
+none-planned fam = refusedPlan 3 refl (omega arith) refl

@@ -6,7 +6,8 @@ use native.Mathlib.Omega.{arith}
 use lib.ListN.{replicate}
 use Rattle.blocks.specs.Numbers.{numbersOf}
 use Rattle.grammar.specs.Template.{Body, Length}
-use Rattle.grammar.specs.Leaf.{Leaf}
+use Rattle.format.specs.declared.Family.{Family}
+use Rattle.grammar.specs.Family.{LeafOf}
 use Rattle.grammar.specs.Blocks.{blocksOf}
 use Rattle.plans.specs.Plans.{noPlan, Planned, PlanOf, refusedPlan, aPlan}
 use Rattle.plans.specs.declared.Plan.{Plan}
@@ -22,8 +23,8 @@ pub record SamePlan (p p′ : Plan) : Type 0 where
   pub blocks : p .blocks ≡ p′ .blocks
   pub places : (p .number ≡ 0 → ⊥) → p .places ≡ p′ .places
 
-planned-same : (t : List ℕ) (a : Length) (b : Body Leaf) (p p′ : Plan) → p .number ≡ 0 → p′ .number ≡ 0 → Planned t a b p → Planned t a b p′ → SamePlan p p′
-planned-same t a b p p′ z z′ x y =
+planned-same : (fam : Family) (t : List ℕ) (a : Length) (b : Body (LeafOf fam)) (p p′ : Plan) → p .number ≡ 0 → p′ .number ≡ 0 → Planned fam t a b p → Planned fam t a b p′ → SamePlan p p′
+planned-same fam t a b p p′ z z′ x y =
     let count : p .count ≡ p′ .count = x .count ∙ sym (y .count) in
     record {
       number = z ∙ sym z′;
@@ -48,14 +49,14 @@ refused-same p p′ e = record {
   places = λ n. ap (λ (x : Plan). x .places) e;
 }
 
-pub plan-same : (t : List ℕ) (p p′ : Plan) → PlanOf t p → PlanOf t p′ → SamePlan p p′
-plan-same t p p′ (refusedPlan n q l e) (refusedPlan n′ q′ l′ e′) = let same : n ≡ n′ = cc in refused-same p p′ (e ∙ ap noPlan same ∙ sym e′)
-plan-same t p p′ (refusedPlan n q l e) (aPlan a b q′ z x) = let c : _≡_ {A = ℕ} 0 1 = cc in absurd (omega arith)
-plan-same t p p′ (aPlan a b q z x) (refusedPlan n q′ l e) = let c : _≡_ {A = ℕ} 0 1 = cc in absurd (omega arith)
-plan-same t p p′ (aPlan a b q z x) (aPlan a′ b′ q′ z′ y) =
+pub plan-same : (fam : Family) (t : List ℕ) (p p′ : Plan) → PlanOf fam t p → PlanOf fam t p′ → SamePlan p p′
+plan-same fam t p p′ (refusedPlan n q l e) (refusedPlan n′ q′ l′ e′) = let same : n ≡ n′ = cc in refused-same p p′ (e ∙ ap noPlan same ∙ sym e′)
+plan-same fam t p p′ (refusedPlan n q l e) (aPlan a b q′ z x) = let c : _≡_ {A = ℕ} 0 1 = cc in absurd (omega arith)
+plan-same fam t p p′ (aPlan a b q z x) (refusedPlan n q′ l e) = let c : _≡_ {A = ℕ} 0 1 = cc in absurd (omega arith)
+plan-same fam t p p′ (aPlan a b q z x) (aPlan a′ b′ q′ z′ y) =
     let u : a′ ≡ a = cc in
     let v : b′ ≡ b = cc in
-    planned-same t a b p p′ z z′ x (moved u v y)
+    planned-same fam t a b p p′ z z′ x (moved u v y)
   where
-    moved : a′ ≡ a → b′ ≡ b → Planned t a′ b′ p′ → Planned t a b p′
+    moved : a′ ≡ a → b′ ≡ b → Planned fam t a′ b′ p′ → Planned fam t a b p′
     moved u v w = rw (sym u, sym v) w

@@ -1,8 +1,8 @@
 -- What a plan says of the bytes of a template.
 -- noPlan number   == the plan of bytes that are refused with this number: all else is 0
--- Planned t a b p <-> the plan p says of the template with the length attribute a and the body b, whose bytes are t: its length bounds, its
+-- Planned f t a b p <-> the plan p says of the template of the family f with the length attribute a and the body b, whose bytes are t: its length bounds, its
 --                    kind, how many blocks it has and which (after them stands 0), how many members it has, and where they stand
--- PlanOf t p     <-> p is the plan of the bytes t: noPlan of the refusal's number; or 0 and what Planned says
+-- PlanOf f t p   <-> p is the plan of the bytes t: noPlan of the refusal's number; or 0 and what Planned says
 -- Which places a plan has is all that these leave open: an element template that stands twice in the bytes may be named by either place.
 -- Assumes nothing: these are definitions.
 use mathlib.Core.Path.{_≡_}
@@ -11,7 +11,8 @@ use Prim.Native.Nat.{ℕ, _-_, _≤_, _<_}
 use lib.ListN.{length, take, replicate}
 use Rattle.blocks.specs.Numbers.{numbersOf, blocksIn}
 use Rattle.grammar.specs.Template.{Body, Length, template, membersOf}
-use Rattle.grammar.specs.Leaf.{Leaf, leafHead}
+use Rattle.format.specs.declared.Family.{Family}
+use Rattle.grammar.specs.Family.{LeafOf, leavesOf}
 use Rattle.grammar.specs.Read.{refuse, got}
 use Rattle.grammar.specs.Whole.{readTemplate}
 use Rattle.grammar.specs.Blocks.{blocksOf, bodyKind, lowOf, highOf, Standing}
@@ -20,7 +21,7 @@ use Rattle.plans.specs.declared.Plan.{Plan}
 abbrev pub noPlan : ℕ → Plan
 noPlan number = record { number = number; low = 0; high = 0; kind = 0; count = 0; members = 0; blocks = replicate 32 0; places = replicate 32 0 }
 
-pub record Planned (t : List ℕ) (a : Length) (b : Body Leaf) (p : Plan) : Type 0 where
+pub record Planned (f : Family) (t : List ℕ) (a : Length) (b : Body (LeafOf f)) (p : Plan) : Type 0 where
   pub lower : p .low ≡ lowOf a
   pub upper : p .high ≡ highOf a
   pub kind : p .kind ≡ bodyKind b
@@ -30,8 +31,8 @@ pub record Planned (t : List ℕ) (a : Length) (b : Body Leaf) (p : Plan) : Type
   pub numbers : p .blocks ≡ numbersOf (blocksOf b) ++ replicate (32 - p .count) 0
   pub fewMembers : p .members ≤ 32
   pub size : p .members ≡ length (membersOf b)
-  pub stands : Standing t (membersOf b) (take (p .members) (p .places))
+  pub stands : Standing f t (membersOf b) (take (p .members) (p .places))
 
-pub data PlanOf (t : List ℕ) (p : Plan) : Type 0 where
-  refusedPlan : (number : ℕ) → readTemplate leafHead t ≡ refuse number → 0 < number → p ≡ noPlan number → PlanOf t p
-  aPlan : (a : Length) (b : Body Leaf) → readTemplate leafHead t ≡ got (template a b) [] → p .number ≡ 0 → Planned t a b p → PlanOf t p
+pub data PlanOf (f : Family) (t : List ℕ) (p : Plan) : Type 0 where
+  refusedPlan : (number : ℕ) → readTemplate (leavesOf f) t ≡ refuse number → 0 < number → p ≡ noPlan number → PlanOf f t p
+  aPlan : (a : Length) (b : Body (LeafOf f)) → readTemplate (leavesOf f) t ≡ got (template a b) [] → p .number ≡ 0 → Planned f t a b p → PlanOf f t p

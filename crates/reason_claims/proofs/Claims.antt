@@ -1,13 +1,15 @@
 -- The claims of specs/Claims.antt, proved. Assumes nothing.
 use mathlib.Core.Path.{_≡_, refl, sym, ap, _∙_, subst, subst₂}
 use mathlib.Core.Bool.{Bool}
-use mathlib.Core.Logic.{⊎-elim}
+use mathlib.Core.Logic.{inl, inr, ⊎-elim}
 use mathlib.Core.List.{List, []}
-use Prim.Native.Nat.{ℕ, _<_}
+use Prim.Native.Nat.{ℕ, _≤_, _<_}
 use native.Mathlib.Omega.{arith}
 use lib.ListN.{length}
 use lib.IntN.{ℤ}
-use Rattle.grammar.specs.Leaf.{Leaf, leafHead}
+use lib.Ieee.{Float}
+use Rattle.format.specs.declared.Family.{Family}
+use Rattle.grammar.specs.Family.{LeafOf, leavesOf, ElementOf, RowOf}
 use Rattle.grammar.specs.Template.{Template}
 use Rattle.grammar.specs.Read.{got}
 use Rattle.grammar.specs.Whole.{readTemplate}
@@ -48,65 +50,67 @@ hall ok k n few short = (
 
 -- ---- why not
 -- the contract, said of what was lent and given
-why-of : (t : List ℕ) (xs : List ℤ) (r g : ℕ) → WhyCall t xs r g → WhyOf t xs r g
-why-of t xs r g c =
-    subst₂ (λ (n m : ℕ). WhyOf t xs n m) (c .number) (c .mask)
-    (subst₂ (λ (s : List ℕ) (l : List ℤ). WhyOf s l (c .result .number) (c .result .group)) (c .bytes) (c .list) (c .allowed))
+why-of : (fam : Family) (t : List ℕ) (xs : List (ElementOf fam)) (r g : ℕ) → WhyCall fam t xs r g → WhyOf fam t xs r g
+why-of Family.Integers t xs r g c =
+    subst₂ (λ (n m : ℕ). WhyOf Family.Integers t xs n m) (c .number) (c .mask)
+    (subst₂ (λ (s : List ℕ) (l : List ℤ). WhyOf Family.Integers s l (c .result .number) (c .result .group)) (c .bytes) (c .list) (c .allowed))
+why-of Family.Floats t xs r g c =
+    subst₂ (λ (n m : ℕ). WhyOf Family.Floats t xs n m) (c .number) (c .mask)
+    (subst₂ (λ (s : List ℕ) (l : List Float). WhyOf Family.Floats s l (c .result .number) (c .result .group)) (c .bytes) (c .list) (c .allowed))
 
 -- what stands behind a group
-behind : (t : List ℕ) (xs : List ℤ) (r g : ℕ) → WhyOf t xs r g → (g ≡ 0 → ⊥) → (s : Template Leaf) × Unmatched t xs s × Explained s xs
+behind : (fam : Family) (t : List ℕ) (xs : List (ElementOf fam)) (r g : ℕ) → WhyOf fam t xs r g → (g ≡ 0 → ⊥) → (s : Template (LeafOf fam)) × Unmatched fam t xs s × Explained s xs
 unfolding GroupRead GroupOf
-behind t xs r g h some = read (read-cases t)
+behind fam t xs r g h some = read (read-cases fam t)
   where
-    asked : (s : Template Leaf) → readTemplate leafHead t ≡ got s [] → (a : Asked) → askedOf s xs ≡ a → (s : Template Leaf) × Unmatched t xs s × Explained s xs
-    asked s q ofNothing e = absurd (some (subst (λ a. GroupOf a r g) e (subst (λ o. GroupRead o xs r g) q (h .group))))
+    asked : (s : Template (LeafOf fam)) → readTemplate (leavesOf fam) t ≡ got s [] → (a : Asked) → askedOf fam s xs ≡ a → (s : Template (LeafOf fam)) × Unmatched fam t xs s × Explained s xs
+    asked s q ofNothing e = absurd (some (subst (λ a. GroupOf a r g) e (subst (λ o. GroupRead fam o xs r g) q (h .group))))
     asked s q (ofGroups ok k n) e =
-        let u = one-behind t xs (ownRoom xs) s (λ _. own-enough xs) (h .number (ownRoom xs) (own-enough xs) ∙ given-one h some q e .0) q in
-        (s, u, asked-question (few-members t s q) (u .taken .1) e .explained)
+        let u = one-behind fam t xs (ownRoom xs) s (λ _. own-enough xs) (h .number (ownRoom xs) (own-enough xs) ∙ given-one h some q e .0) q in
+        (s, u, asked-question (few-members fam t s q) (u .taken .1) e .explained)
 
-    read : Cases (readTemplate leafHead t) → (s : Template Leaf) × Unmatched t xs s × Explained s xs
-    read (isRefused q e p) = absurd (some (subst (λ o. GroupRead o xs r g) e (h .group)))
-    read (isRead s e) = asked s e (askedOf s xs) refl
+    read : Cases (readTemplate (leavesOf fam) t) → (s : Template (LeafOf fam)) × Unmatched fam t xs s × Explained s xs
+    read (isRefused q e p) = absurd (some (subst (λ o. GroupRead fam o xs r g) e (h .group)))
+    read (isRead s e) = asked s e (askedOf fam s xs) refl
 
 pub givenWhere : GivenWhere
 unfolding GroupOf
-givenWhere t xs r g c = (
-  behind t xs r g (why-of t xs r g c),
+givenWhere fam t xs r g c = (
+  behind fam t xs r g (why-of fam t xs r g c),
   λ s u e z.
-      let h = why-of t xs r g c in
-      let a = explained-asked e in
+      let h = why-of fam t xs r g c in
+      let a = explained-asked fam e in
       let one = sym (h .number (ownRoom xs) (own-enough xs)) ∙ one-where u (ownRoom xs) (own-enough xs) in
       empty-not-short z (asked-group h (u .reading) (a .3) .0 one .1),
 )
 
 pub givenShort : GivenShort
-givenShort t xs r g c some s q ok k n e = given-one (why-of t xs r g c) some q e .2
+givenShort fam t xs r g c some s q ok k n e = given-one (why-of fam t xs r g c) some q e .2
 
 pub noneShorter : NoneShorter
-noneShorter t xs r g c some s q ok k n e = given-one (why-of t xs r g c) some q e .1 .most .most
+noneShorter fam t xs r g c some s q ok k n e = given-one (why-of fam t xs r g c) some q e .1 .most .most
 
 pub insideOthers : InsideOthers
-insideOthers t xs r g c some s q ok k n e = given-one (why-of t xs r g c) some q e .1 .least
+insideOthers fam t xs r g c some s q ok k n e = given-one (why-of fam t xs r g c) some q e .1 .least
 
 pub numberAgrees : NumberAgrees
-numberAgrees t xs r g c room after q l m = sym (why-of t xs r g c .number room l) ∙ ap numberOf (match-answer t xs room q after m)
+numberAgrees fam t xs r g c room after q l m = sym (why-of fam t xs r g c .number room l) ∙ ap numberOf (match-answer fam t xs room q after m)
 
 pub neverTwelve : NeverTwelve
-neverTwelve t xs r g c =
-    let m = everyInput .0 t xs (ownRoom xs) in
+neverTwelve fam t xs r g c =
+    let m = everyInput .0 fam t xs (ownRoom xs) in
     let q = m .0 in
-    let same : r ≡ q = numberAgrees t xs r g c (ownRoom xs) (m .1) q (own-enough xs) (m .2) in
-    let given = first .matcher t xs (ownRoom xs) q (m .1) (m .2) in
+    let same : r ≡ q = numberAgrees fam t xs r g c (ownRoom xs) (m .1) q (own-enough xs) (m .2) in
+    let given = first .matcher fam t xs (ownRoom xs) q (m .1) (m .2) in
     let twelve : q ≡ 12 → ⊥ = λ e. roomy (given .twelve .0 e .1) in
-    let most = given .numbers in
-    omega (arith, twelve)
+    ⊎-elim (λ (most : q ≤ 12). inl (omega (arith, twelve))) (λ (row : RowOf fam q). inr (subst (RowOf fam) (sym same) row)) (given .numbers)
   where
     roomy : length (ownRoom xs) < length xs → ⊥
     roomy h = let l = own-enough xs in omega arith
 
 pub shortExactly : ShortExactly
-shortExactly t xs s taken q ok k n e =
-    let c = asked-question (few-members t s q) (taken .1) e in (
+shortExactly fam t xs s taken q ok k n e =
+    let c = asked-question (few-members fam t s q) (taken .1) e in (
       c .unmet,
       λ never. ⊎-elim
           (λ (f : (f : ℕ → ℕ) × Chosen ok k n f). let w = c .met (f .0) (f .1) in absurd (never (w .0) (w .1)))

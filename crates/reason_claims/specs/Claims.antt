@@ -1,5 +1,5 @@
 -- What is claimed of groups of members that are short of elements, and of `why_not`, in the words of document 02. Of `why_not` they speak of
--- every call that its contract allows.
+-- every call that its contract allows, and as much of `why_not_floats`: they are stated once, for every family f of templates and lists.
 -- Exists    <-> of the groups whose shortfall is greatest, one lies inside all the others
 -- OnlyOne   <-> there is only one such group
 -- Explains  <-> it is short exactly where some group is
@@ -11,18 +11,19 @@
 -- NoneShorter   <-> no group's shortfall is greater
 -- InsideOthers  <-> of the groups whose shortfall is greatest it "lies inside all the others"
 -- NumberAgrees  <-> the number is the matcher's, with room enough
--- NeverTwelve   <-> the number is at most 11: nothing is lent, so no room is too short, and no witness is offered
+-- NeverTwelve   <-> the number is at most 11, or of a row about the template: nothing is lent, so no room is too short, and no witness is offered
 -- ShortExactly  <-> a group that is short "exists exactly when no assignment does"
 -- Assumes nothing: these are statements, proved in proofs/Claims.antt.
 use mathlib.Core.Path.{_≡_}
 use mathlib.Core.Bool.{Bool, true}
 use mathlib.Core.List.{List, []}
+use mathlib.Core.Logic.{_⊎_}
 use Prim.Native.Nat.{ℕ, _+_, _≤_}
 use lib.ListN.{length}
-use lib.IntN.{ℤ}
 use Rattle.facts.specs.Counting.{count}
 use Rattle.masks.specs.Masks.{bit}
-use Rattle.grammar.specs.Leaf.{Leaf, leafHead}
+use Rattle.format.specs.declared.Family.{Family}
+use Rattle.grammar.specs.Family.{LeafOf, leavesOf, ElementOf, RowOf}
 use Rattle.grammar.specs.Read.{got}
 use Rattle.grammar.specs.Template.{Template}
 use Rattle.grammar.specs.Whole.{readTemplate}
@@ -54,12 +55,12 @@ Hall = (ok : ℕ → ℕ → Bool) (k n : ℕ) → k ≤ 32 → n ≤ 32
 
 -- ---- why not
 abbrev pub GivenWhere : Type 0
-GivenWhere = (t : List ℕ) (xs : List ℤ) (r g : ℕ) → WhyCall t xs r g
-    → ((g ≡ 0 → ⊥) → (s : Template Leaf) × Unmatched t xs s × Explained s xs) × ((s : Template Leaf) → Unmatched t xs s → Explained s xs → g ≡ 0 → ⊥)
+GivenWhere = (f : Family) (t : List ℕ) (xs : List (ElementOf f)) (r g : ℕ) → WhyCall f t xs r g
+    → ((g ≡ 0 → ⊥) → (s : Template (LeafOf f)) × Unmatched f t xs s × Explained s xs) × ((s : Template (LeafOf f)) → Unmatched f t xs s → Explained s xs → g ≡ 0 → ⊥)
 
 abbrev pub OfGiven : ((ℕ → ℕ → Bool) → ℕ → ℕ → ℕ → Type 0) → Type 0
-OfGiven P = (t : List ℕ) (xs : List ℤ) (r g : ℕ) → WhyCall t xs r g → (g ≡ 0 → ⊥) → (s : Template Leaf) → readTemplate leafHead t ≡ got s []
-    → (ok : ℕ → ℕ → Bool) (k n : ℕ) → askedOf s xs ≡ ofGroups ok k n → P ok k n g
+OfGiven P = (f : Family) (t : List ℕ) (xs : List (ElementOf f)) (r g : ℕ) → WhyCall f t xs r g → (g ≡ 0 → ⊥) → (s : Template (LeafOf f)) → readTemplate (leavesOf f) t ≡ got s []
+    → (ok : ℕ → ℕ → Bool) (k n : ℕ) → askedOf f s xs ≡ ofGroups ok k n → P ok k n g
 
 abbrev pub GivenShort : Type 0
 GivenShort = OfGiven (λ ok k n g. ShortGroup ok k n (bit g))
@@ -71,14 +72,14 @@ abbrev pub InsideOthers : Type 0
 InsideOthers = OfGiven (λ ok k n g. (H : ℕ → Bool) → Most ok k n H → (v : ℕ) → bit g v ≡ true → H v ≡ true)
 
 abbrev pub NumberAgrees : Type 0
-NumberAgrees = (t : List ℕ) (xs : List ℤ) (r g : ℕ) → WhyCall t xs r g
-    → (room after : List ℕ) (q : ℕ) → length xs ≤ length room → MatchCall t xs room q after → r ≡ q
+NumberAgrees = (f : Family) (t : List ℕ) (xs : List (ElementOf f)) (r g : ℕ) → WhyCall f t xs r g
+    → (room after : List ℕ) (q : ℕ) → length xs ≤ length room → MatchCall f t xs room q after → r ≡ q
 
 abbrev pub NeverTwelve : Type 0
-NeverTwelve = (t : List ℕ) (xs : List ℤ) (r g : ℕ) → WhyCall t xs r g → r ≤ 11
+NeverTwelve = (f : Family) (t : List ℕ) (xs : List (ElementOf f)) (r g : ℕ) → WhyCall f t xs r g → (r ≤ 11) ⊎ RowOf f r
 
 abbrev pub ShortExactly : Type 0
-ShortExactly = (t : List ℕ) (xs : List ℤ) (s : Template Leaf) → Taken t xs → readTemplate leafHead t ≡ got s []
-    → (ok : ℕ → ℕ → Bool) (k n : ℕ) → askedOf s xs ≡ ofGroups ok k n
-    → ((G : ℕ → Bool) → ShortGroup ok k n G → (w : List ℕ) → obeys s xs w ≡ true → ⊥)
-    × (((w : List ℕ) → obeys s xs w ≡ true → ⊥) → (G : ℕ → Bool) × ShortGroup ok k n G)
+ShortExactly = (f : Family) (t : List ℕ) (xs : List (ElementOf f)) (s : Template (LeafOf f)) → Taken t xs → readTemplate (leavesOf f) t ≡ got s []
+    → (ok : ℕ → ℕ → Bool) (k n : ℕ) → askedOf f s xs ≡ ofGroups ok k n
+    → ((G : ℕ → Bool) → ShortGroup ok k n G → (w : List ℕ) → obeys f s xs w ≡ true → ⊥)
+    × (((w : List ℕ) → obeys f s xs w ≡ true → ⊥) → (G : ℕ → Bool) × ShortGroup ok k n G)

@@ -1,5 +1,5 @@
 -- The claims of reasons.
--- Calls  == calls of `why_not`: what its contract allows
+-- Calls  == calls of `why_not` and `why_not_floats`: what their contracts allow
 -- Claims == what is claimed of short groups and of `why_not`
 -- Assumes nothing: these are statements.
 pub mod Calls

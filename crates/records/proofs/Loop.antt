@@ -1,11 +1,10 @@
 -- All blocks, from the last to the first: the places from which those from j on go on to the end, and the rows of the groups among them. Assumes nothing.
 use mathlib.Core.Path.{_≡_, refl, sym, ap, _∙_, subst}
-use mathlib.Core.Bool.{true, false}
+use mathlib.Core.Bool.{Bool, true, false}
 use mathlib.Core.Logic.{⊎-elim}
 use mathlib.Core.List.{List, [], _∷_}
 use Prim.Native.Nat.{ℕ, zero, suc, _+_, _≤_, _<_}
 use native.Mathlib.Omega.{arith}
-use lib.IntN.{ℤ}
 use lib.ListN.{length, getD, take, drop, set, replicate}
 use lib.Seq.{getD-set-same, getD-set-other}
 use Rattle.facts.specs.Counting.{between}
@@ -17,14 +16,12 @@ use Rattle.blocks.specs.declared.Block.{Block}
 use Rattle.blocks.specs.Numbers.{blockIn, blocksIn}
 use Rattle.blocks.specs.Pieces.{Cutting, Inside, isOne}
 use Rattle.blocks.proofs.LentBlocks.{lent}
-use Rattle.grammar.specs.Element.{Elem}
-use Rattle.grammar.specs.Leaf.{Leaf}
 use Rattle.places.specs.Ways.{Ways}
 use Rattle.places.proofs.LentPlaces.{lent-end, lent-back, lent-never}
 use Rattle.blocks.proofs.FirstLists.{none-best}
 use Rattle.plain.specs.Plain.{Plain}
 use Rattle.fronts.specs.Given.{Known, Prepares}
-use Rattle.records.specs.Records.{pairOf, Below, Sound, Joined, Before}
+use Rattle.records.specs.Records.{Below, Sound, Joined, Before}
 use Rattle.records.proofs.Blocks.{joined-agree}
 
 -- ---- the members of each block
@@ -54,27 +51,27 @@ plain-few k (suc c) vs plain h =
 
 -- ---- from block to block
 
-module _ (es : List (Elem Leaf)) (xs : List ℤ) (count : ℕ) (vs : List ℕ) where
+module _ (ok : ℕ → ℕ → Bool) (n count : ℕ) (vs : List ℕ) where
   -- the rows of the groups from j on, and the places from which the blocks after each go on
   pub record Gone (j : ℕ) (ends rows : List ℕ) : Type 0 where
-    pub after : (i : ℕ) → j ≤ i → i < count → Ways (pairOf es xs) (drop (suc i) (lent count vs)) (length xs) (getD ends i 0)
-    pub sound : Sound es xs rows
+    pub after : (i : ℕ) → j ≤ i → i < count → Ways ok (drop (suc i) (lent count vs)) n (getD ends i 0)
+    pub sound : Sound ok n rows
     pub done : (i : ℕ) → j ≤ i → i < count → isOne (blockIn (getD vs i 0)) ≡ false
-        → (m e : ℕ) → between (blockIn (getD vs i 0) .first) (blockIn (getD vs i 0) .first + blockIn (getD vs i 0) .k) m ≡ true → e < length xs → pairOf es xs m e ≡ true → may rows m e ≡ true
+        → (m e : ℕ) → between (blockIn (getD vs i 0) .first) (blockIn (getD vs i 0) .first + blockIn (getD vs i 0) .k) m ≡ true → e < n → ok m e ≡ true → may rows m e ≡ true
     pub size : length rows ≡ 32
 
   pub record Going (j good : ℕ) (ends rows : List ℕ) : Type 0 where
-    pub ways : Ways (pairOf es xs) (drop j (lent count vs)) (length xs) good
+    pub ways : Ways ok (drop j (lent count vs)) n good
     pub gone : Gone j ends rows
 
-  pub going-start : {good : ℕ} (ends : List ℕ) → Plus (bit 0) (length xs) (bit good) → Going count good ends (replicate 32 0)
+  pub going-start : {good : ℕ} (ends : List ℕ) → Plus (bit 0) n (bit good) → Going count good ends (replicate 32 0)
   going-start ends p = record {
-    ways = lent-end (pairOf es xs) count vs (length xs) p;
+    ways = lent-end ok count vs n p;
     gone = record { after = λ i l u. absurd (omega arith); sound = record { right = λ m e l h. absurd (clash h (zeros-may m e)) }; done = λ i l u. absurd (omega arith); size = refl };
   }
 
   module _ (j i good : ℕ) (ends rows : List ℕ) (g : Going j good ends rows) (b : Block) (is : b ≡ blockIn (getD vs i 0)) (q : j ≡ suc i) (l : j ≤ count) (wide : length ends ≡ 32) (few : count ≤ 32) where
-    pub gone-step : (rows′ : List ℕ) → Joined es xs b rows rows′ → Gone i (set ends i good) rows′
+    pub gone-step : (rows′ : List ℕ) → Joined ok n b rows rows′ → Gone i (set ends i good) rows′
     gone-step rows′ h = record {
       after = λ k a u. ⊎-elim
           (λ (z : k ≡ i). rw (z, getD-set-same ends i good 0 (omega arith), sym q) (g .ways))
@@ -90,15 +87,15 @@ module _ (es : List (Elem Leaf)) (xs : List ℤ) (count : ℕ) (vs : List ℕ) w
       size = h .size;
     }
 
-    pub going-step : (r : ℕ) (rows′ : List ℕ) → Before es xs b good rows rows′ r → Going i r (set ends i good) rows′
+    pub going-step : (r : ℕ) (rows′ : List ℕ) → Before ok n b good rows rows′ r → Going i r (set ends i good) rows′
     going-step r rows′ h = record { ways = lent-back count vs j i is q l (h .back (g .gone .sound)) (g .ways); gone = gone-step rows′ (h .rows) }
 
-  pub gone-known : (ends rows : List ℕ) → Gone 0 ends rows → Known (pairOf es xs) rows count vs ends (length xs)
-  gone-known ends rows g = record { told = record { at = λ j l o. joined-agree es xs (blockIn (getD vs j 0)) (g .sound) (g .done j (omega arith) l o) }; ways = λ j l. g .after j (omega arith) l }
+  pub gone-known : (ends rows : List ℕ) → Gone 0 ends rows → Known ok rows count vs ends n
+  gone-known ends rows g = record { told = record { at = λ j l o. joined-agree ok n (blockIn (getD vs j 0)) (g .sound) (g .done j (omega arith) l o) }; ways = λ j l. g .after j (omega arith) l }
 
   module _ (good : ℕ) (ends rows : List ℕ) (g : Going 0 good ends rows) where
-    pub prepares : bit good 0 ≡ true → Prepares (pairOf es xs) rows count vs ends (length xs)
+    pub prepares : bit good 0 ≡ true → Prepares ok rows count vs ends n
     prepares h = record { known = gone-known ends rows (g .gone); start = g .ways .some 0 h }
 
-    pub no-cut : bit good 0 ≡ false → (w : List ℕ) → w ≡ replicate 32 255 → Cutting (pairOf es xs) (blocksIn (take count vs)) (length xs) false w
+    pub no-cut : bit good 0 ≡ false → (w : List ℕ) → w ≡ replicate 32 255 → Cutting ok (blocksIn (take count vs)) n false w
     no-cut h w blank = none-best blank (lent-never count vs (g .ways) h)

@@ -14,6 +14,11 @@ use Rattle.records.proofs.first_in_record.Kinds as first-in-record-kind
 abbrev made : Bool → List ℕ → Found
 made found w = record { found = found; w = w }
 
-pub first-in-record-unique : (κs : Lfts 4) (a : Dens κs first-in-record-kinds.ps) (r r′ : resT first-in-record-kinds.r κs .Denot) (s s′ : AtExit (endedOf 4 first-in-record-kinds.ps first-in-record-kinds.r) κs)
+pub first-in-record-unique : (κs : Lfts 5) (a : Dens κs first-in-record-kinds.ps) (r r′ : resT first-in-record-kinds.r κs .Denot) (s s′ : AtExit (endedOf 5 first-in-record-kinds.ps first-in-record-kinds.r) κs)
     → first-in-record-reads.Pre κs a → first-in-record-reads.Post κs a r s → first-in-record-reads.Post κs a r′ s′ → r ≡ r′
-first-in-record-unique κs a r r′ s s′ w p q = let u = best-unique (p (w .0 .who) (w .0 .stands)) (q (w .0 .who) (w .0 .stands)) in ap₂ made (u .0) (u .1)
+first-in-record-unique κs a r r′ s s′ w p q =
+    let served = w .0 in
+    let who = served .placed .who in
+    let stands = served .placed .stands in
+    let u = best-unique (p (served .family) (served .lent) who stands) (q (served .family) (served .lent) who stands) in
+    ap₂ made (u .0) (u .1)

@@ -6,11 +6,12 @@ ghost use mathlib.Core.Path.{_≡_};
 ghost use Prim.Native.Nat.{ℕ, _+_, _≤_};
 ghost use lib.ListN.{length, take};
 ghost use Rattle.grammar.specs.Element.{Elem};
-ghost use Rattle.grammar.specs.Leaf.{Leaf};
+ghost use Rattle.format.specs.declared.Family.{Family};
+ghost use Rattle.grammar.specs.Family.{LeafOf, listOf, Lent};
 ghost use Rattle.grammar.specs.Blocks.{Standing};
 ghost use Rattle.blocks.specs.Numbers.{blocksIn};
 ghost use Rattle.blocks.specs.Pieces.{Cutting};
-ghost use Rattle.member_rows.specs.Places.{MembersAt, Widened};
+ghost use Rattle.member_rows.specs.Places.{Served, Widened};
 ghost use Rattle.plain.specs.Plain.{Plain};
 ghost use Rattle.places.specs.Ways.{Low};
 ghost use Rattle.records.specs.Records.{pairOf, Below, Joined, Before, leftOut};
@@ -18,10 +19,12 @@ use blocks::Block;
 use blocks::Found;
 use blocks::block_at;
 use blocks::is_one;
+use element_match::float_hit;
 use element_match::hit;
 use element_match::hits;
 use element_match::leaf_hit;
-use format::LIST;
+use format::ANY;
+use format::COMPLEMENT;
 use format::SPARE;
 use fronts::first_cut_by_group;
 use fronts::first_cut_from;
@@ -42,16 +45,26 @@ fn mark_group(
     t: &[u8],
     places: &[u16; 32],
     members: usize,
-    list: &[i32],
+    integers: &[i32],
+    floats: &[f64],
     wide: &[i32; 32],
     rows: &mut [u32; 32],
     b: Block,
 )
-    requires { ⌜ MembersAt (now t) (now places) members × (length (now list) ≤ 32) × Widened (now list) (now wide) × (length (now rows) ≡ 32) × (b .first + b .k ≤ members) ⌝ }
-    ensures { λ _. ⌜ ((es : List (Elem Leaf)) → Standing (now (t .entry)) es (take members (now (places .entry))) → Joined es (now (list .entry)) b (now (rows .entry)) (now (rows .exit))) ⌝ }
+    requires { ⌜ Served (now t) (now places) members (now integers) (now floats) × Widened (now integers) (now wide) × (length (now rows) ≡ 32) × (b .first + b .k ≤ members) ⌝ }
+    ensures { λ _. ⌜ ((f : Family) → Lent f (now (integers .entry)) (now (floats .entry)) → (es : List (Elem (LeafOf f))) → Standing f (now (t .entry)) es (take members (now (places .entry))) → Joined (pairOf f es (listOf f (now (integers .entry)) (now (floats .entry)))) (length (now (integers .entry)) + length (now (floats .entry))) b (now (rows .entry)) (now (rows .exit))) ⌝ }
 {
     let first = b.first as usize;
-    mark_members(rows, t, places, first, first + b.k as usize, list, wide);
+    mark_members(
+        rows,
+        t,
+        places,
+        first,
+        first + b.k as usize,
+        integers,
+        floats,
+        wide,
+    );
 }
 
 // The places from which b leads to a good one. The rows get the members of a group.
@@ -59,14 +72,15 @@ fn before_block(
     t: &[u8],
     places: &[u16; 32],
     members: usize,
-    list: &[i32],
+    integers: &[i32],
+    floats: &[f64],
     wide: &[i32; 32],
     rows: &mut [u32; 32],
     b: Block,
     good: u64,
 ) -> u64
-    requires { ⌜ MembersAt (now t) (now places) members × (length (now list) ≤ 32) × Widened (now list) (now wide) × (length (now rows) ≡ 32) × (b .first + b .k ≤ members) × Low good (length (now list)) ⌝ }
-    ensures { λ r. ⌜ ((es : List (Elem Leaf)) → Standing (now (t .entry)) es (take members (now (places .entry))) → Before es (now (list .entry)) b good (now (rows .entry)) (now (rows .exit)) r) ⌝ }
+    requires { ⌜ Served (now t) (now places) members (now integers) (now floats) × Widened (now integers) (now wide) × (length (now rows) ≡ 32) × (b .first + b .k ≤ members) × Low good (length (now integers) + length (now floats)) ⌝ }
+    ensures { λ r. ⌜ ((f : Family) → Lent f (now (integers .entry)) (now (floats .entry)) → (es : List (Elem (LeafOf f))) → Standing f (now (t .entry)) es (take members (now (places .entry))) → Before (pairOf f es (listOf f (now (integers .entry)) (now (floats .entry)))) (length (now (integers .entry)) + length (now (floats .entry))) b good (now (rows .entry)) (now (rows .exit)) r) ⌝ }
 {
     if b.k == 0 {
         return before_spares(good, b.min as usize, b.max as usize);
@@ -74,9 +88,13 @@ fn before_block(
     if is_one(b) {
         let first = b.first as usize;
         let at = places[first] as usize;
-        return hits(t, at, list, before_one(good)) as u64;
+        let asked = before_one(good);
+        if t[at] == ANY {
+            return asked as u64;
+        }
+        return hits(t, at, integers, floats, asked) as u64;
     }
-    mark_group(t, places, members, list, wide, rows, b);
+    mark_group(t, places, members, integers, floats, wide, rows, b);
     before_group(rows, b, good)
 }
 
@@ -94,11 +112,18 @@ fn left_out(b: Block) -> usize
 }
 
 // The first cut by plain blocks: each element is tested on its own member, and there is no other cut.
-fn plain_first(t: &[u8], places: &[u16; 32], members: usize, count: usize, list: &[i32]) -> Found
-    requires { ⌜ MembersAt (now t) (now places) members × (count ≤ members) × (length (now list) ≤ 32) ⌝ }
-    ensures { λ r. ⌜ ((es : List (Elem Leaf)) (vs : List ℕ) → Standing (now (t .entry)) es (take members (now (places .entry))) → Plain count vs → Cutting (pairOf es (now (list .entry))) (blocksIn (take count vs)) (length (now (list .entry))) (r .found) (r .w)) ⌝ }
+fn plain_first(
+    t: &[u8],
+    places: &[u16; 32],
+    members: usize,
+    count: usize,
+    integers: &[i32],
+    floats: &[f64],
+) -> Found
+    requires { ⌜ Served (now t) (now places) members (now integers) (now floats) × (count ≤ members) ⌝ }
+    ensures { λ r. ⌜ ((f : Family) → Lent f (now (integers .entry)) (now (floats .entry)) → (es : List (Elem (LeafOf f))) (vs : List ℕ) → Standing f (now (t .entry)) es (take members (now (places .entry))) → Plain count vs → Cutting (pairOf f es (listOf f (now (integers .entry)) (now (floats .entry)))) (blocksIn (take count vs)) (length (now (integers .entry)) + length (now (floats .entry))) (r .found) (r .w)) ⌝ }
 {
-    let n = list.len();
+    let n = integers.len() + floats.len();
     let blank = [SPARE; 32];
     let mut w = blank;
     if n != count {
@@ -110,10 +135,15 @@ fn plain_first(t: &[u8], places: &[u16; 32], members: usize, count: usize, list:
     let mut e: usize = 0;
     while e < n {
         let at = places[e] as usize;
-        let right = if t[at] < LIST {
-            leaf_hit(t, at, list[e])
+        let kind = t[at];
+        let right = if kind < ANY {
+            leaf_hit(t, at, integers[e])
+        } else if kind == ANY {
+            true
+        } else if COMPLEMENT < kind {
+            float_hit(t, at, floats[e])
         } else {
-            hit(t, at, list, e)
+            hit(t, at, integers, floats, e)
         };
         if !right {
             return Found {
@@ -134,13 +164,14 @@ fn first_by_places(
     members: usize,
     blocks: &[u32; 32],
     count: usize,
-    list: &[i32],
+    integers: &[i32],
+    floats: &[f64],
 ) -> Found
-    requires { ⌜ MembersAt (now t) (now places) members × (count ≤ 32) × (length (now list) ≤ 32) × Below members (blocksIn (take count (now blocks))) ⌝ }
-    ensures { λ r. ⌜ ((es : List (Elem Leaf)) → Standing (now (t .entry)) es (take members (now (places .entry))) → Cutting (pairOf es (now (list .entry))) (blocksIn (take count (now (blocks .entry)))) (length (now (list .entry))) (r .found) (r .w)) ⌝ }
+    requires { ⌜ Served (now t) (now places) members (now integers) (now floats) × (count ≤ 32) × Below members (blocksIn (take count (now blocks))) ⌝ }
+    ensures { λ r. ⌜ ((f : Family) → Lent f (now (integers .entry)) (now (floats .entry)) → (es : List (Elem (LeafOf f))) → Standing f (now (t .entry)) es (take members (now (places .entry))) → Cutting (pairOf f es (listOf f (now (integers .entry)) (now (floats .entry)))) (blocksIn (take count (now (blocks .entry)))) (length (now (integers .entry)) + length (now (floats .entry))) (r .found) (r .w)) ⌝ }
 {
-    let n = list.len();
-    let wide = widened(list);
+    let n = integers.len() + floats.len();
+    let wide = widened(integers);
     let mut rows: [u32; 32] = [0; 32];
     let mut ends: [u64; 32] = [0; 32];
     let mut good = with_place(0, n);
@@ -150,12 +181,22 @@ fn first_by_places(
         j -= 1;
         ends[j] = good;
         let b = block_at(blocks, j);
-        good = before_block(t, places, members, list, &wide, &mut rows, b, good);
+        good = before_block(
+            t,
+            places,
+            members,
+            integers,
+            floats,
+            &wide,
+            &mut rows,
+            b,
+            good,
+        );
     }
     if j != 0 {
         ends[0] = good;
         let b = block_at(blocks, 0);
-        mark_group(t, places, members, list, &wide, &mut rows, b);
+        mark_group(t, places, members, integers, floats, &wide, &mut rows, b);
         return first_cut_by_group(&rows, blocks, count, &ends, n as u8);
     }
     let blank = [SPARE; 32];
@@ -176,15 +217,16 @@ pub fn first_in_record(
     members: usize,
     blocks: &[u32; 32],
     count: usize,
-    list: &[i32],
+    integers: &[i32],
+    floats: &[f64],
 ) -> Found
-    requires { ⌜ MembersAt (now t) (now places) members × (count ≤ 32) × (length (now list) ≤ 32) × Below members (blocksIn (take count (now blocks))) ⌝ }
-    ensures { λ r. ⌜ ((es : List (Elem Leaf)) → Standing (now (t .entry)) es (take members (now (places .entry))) → Cutting (pairOf es (now (list .entry))) (blocksIn (take count (now (blocks .entry)))) (length (now (list .entry))) (r .found) (r .w)) ⌝ }
+    requires { ⌜ Served (now t) (now places) members (now integers) (now floats) × (count ≤ 32) × Below members (blocksIn (take count (now blocks))) ⌝ }
+    ensures { λ r. ⌜ ((f : Family) → Lent f (now (integers .entry)) (now (floats .entry)) → (es : List (Elem (LeafOf f))) → Standing f (now (t .entry)) es (take members (now (places .entry))) → Cutting (pairOf f es (listOf f (now (integers .entry)) (now (floats .entry)))) (blocksIn (take count (now (blocks .entry)))) (length (now (integers .entry)) + length (now (floats .entry))) (r .found) (r .w)) ⌝ }
 {
     if is_plain(blocks, count) {
-        return plain_first(t, places, members, count, list);
+        return plain_first(t, places, members, count, integers, floats);
     }
     let mut joined: [u32; 32] = [0; 32];
     let many = join_runs(blocks, count, &mut joined);
-    first_by_places(t, places, members, &joined, many, list)
+    first_by_places(t, places, members, &joined, many, integers, floats)
 }

@@ -11,6 +11,7 @@ use lib.ListN.{length, take, drop, length-append, length-take, length-drop}
 use lib.Seq.{take-at}
 use lib.IntN.{ℤ}
 use Rattle.facts.proofs.Cases.{by-test, and-left, and-right, one-of}
+use Rattle.format.specs.declared.Family.{Family}
 use Rattle.grammar.specs.Element.{Elem}
 use Rattle.grammar.specs.Leaf.{Leaf, leafHead}
 use Rattle.grammar.specs.Matches.{matches}
@@ -91,7 +92,7 @@ right-size es (x ∷ xs) (b ∷ w) few h =
     let l = length-append (spaceThen b) (spaced w) in
     omega arith
 
-obeys-bytes : (t : List ℕ) (s : Template Leaf) (xs : List ℤ) (w : List ℕ) → readTemplate leafHead t ≡ got s [] → obeys s xs w ≡ true → length (spaced w) ≤ 4 * length w
+obeys-bytes : (t : List ℕ) (s : Template Leaf) (xs : List ℤ) (w : List ℕ) → readTemplate leafHead t ≡ got s [] → obeys Family.Integers s xs w ≡ true → length (spaced w) ≤ 4 * length w
 unfolding obeysBy
 obeys-bytes t (template a b) xs w q h =
     right-size (membersOf b) xs w (accepted-few leafHead t a b q)
@@ -119,20 +120,20 @@ module _ (k n : ℕ) (few : n ≤ 32) where
 
 pub list-line-size : (t : List ℕ) (k : ℕ) (xs : List ℤ) → verdict (readTemplate leafHead t) ≡ 0 → length xs ≤ 32 → length (listLine t k xs) ≤ length (decimal k) + 5 + 5 * length xs
 unfolding verdict listLine matchRead written
-list-line-size t k xs accepted few = by-reading (read-cases t)
+list-line-size t k xs accepted few = by-reading (read-cases Family.Integers t)
   where
-    by-witness : (s : Template Leaf) → readTemplate leafHead t ≡ got s [] → (m : Maybe) → firstWitness s xs ≡ m
+    by-witness : (s : Template Leaf) → readTemplate leafHead t ≡ got s [] → (m : Maybe) → firstWitness Family.Integers s xs ≡ m
         → length (answered k (length xs) (written m emptyRoom)) ≤ length (decimal k) + 5 + 5 * length xs
     by-witness s q nothing e = unmatched-size k (length xs) few emptyRoom
     by-witness s q (just w) e =
-        let holds = first-witness s xs w (few-members t s q) e .holds in
-        matched-size k (length xs) few w (obeys-size s xs w holds) (obeys-bytes t s xs w q holds)
+        let holds = first-witness Family.Integers s xs w (few-members Family.Integers t s q) e .holds in
+        matched-size k (length xs) few w (obeys-size Family.Integers s xs w holds) (obeys-bytes t s xs w q holds)
 
-    by-reading : Cases (readTemplate leafHead t) → length (answered k (length xs) (matchAnswer t xs emptyRoom)) ≤ length (decimal k) + 5 + 5 * length xs
+    by-reading : Cases (readTemplate leafHead t) → length (answered k (length xs) (matchAnswer Family.Integers t xs emptyRoom)) ≤ length (decimal k) + 5 + 5 * length xs
     by-reading (isRefused r q more) = let z = sym accepted ∙ ap verdict q in absurd (omega arith)
     by-reading (isRead s q) =
-        let answer : matchAnswer t xs emptyRoom ≡ written (firstWitness s xs) emptyRoom = reads t xs emptyRoom (accepted-short leafHead t s q, few) few ∙ ap (λ o. matchRead o xs emptyRoom) q in
-        rw answer (by-witness s q (firstWitness s xs) refl)
+        let answer : matchAnswer Family.Integers t xs emptyRoom ≡ written (firstWitness Family.Integers s xs) emptyRoom = reads Family.Integers t xs emptyRoom (accepted-short leafHead t s q, few) few ∙ ap (λ o. matchRead Family.Integers o xs emptyRoom) q in
+        rw answer (by-witness s q (firstWitness Family.Integers s xs) refl)
 
 -- ---- a turn
 

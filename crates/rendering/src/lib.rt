@@ -4,6 +4,7 @@ ghost use Prim.Native.Nat.{_+_, _*_, _≤_};
 ghost use lib.ListN.{length, drop};
 ghost use Rattle.grammar.specs.Read.{got};
 ghost use Rattle.lines.specs.Contract.{Wrote};
+ghost use Rattle.format.specs.declared.Family.{Family};
 ghost use Rattle.plans.specs.Plans.{PlanOf};
 ghost use Rattle.stream.specs.Input.{reached};
 ghost use Rattle.intake_lines.specs.Output.{linesFrom, output};
@@ -14,7 +15,7 @@ use plans::Plan;
 
 // Puts the lines of the lists from `first` on, by the plan of the template, in front of the buffer, and says how many bytes they have.
 fn put_lists(template: &[u8], plan: Plan, input: &[u8], first: usize, out: &mut [u8]) -> usize
-    requires { ⌜ PlanOf (now template) plan × (reached (now input) ≡ got (now template) (drop first (now input))) × (first ≤ length (now input)) × (5 * length (now input) + 256 ≤ length (now out)) ⌝ }
+    requires { ⌜ PlanOf Family.Integers (now template) plan × (reached (now input) ≡ got (now template) (drop first (now input))) × (first ≤ length (now input)) × (5 * length (now input) + 256 ≤ length (now out)) ⌝ }
     ensures { λ r. ⌜ Wrote (linesFrom (now (template .entry)) 1 (drop first (now (input .entry)))) (now (out .entry)) (now (out .exit)) r ⌝ }
 {
     let mut at = first;

@@ -8,7 +8,6 @@ use native.Mathlib.Omega.{arith}
 use native.Mathlib.Nat.{zero-add}
 use lib.ListN.{length, take, length-take, getD}
 use lib.Seq.{slice}
-use lib.IntN.{ℤ}
 use Rattle.facts.proofs.Cases.{not-so}
 use Rattle.rows.specs.Rows.{may, picks}
 use Rattle.blocks.specs.Pieces.{Cuts, Fills, Passing, Cutting, Filling}
@@ -16,7 +15,8 @@ use Rattle.blocks.proofs.Assignments.{assigns-test, test-assigns, short-never}
 use Rattle.blocks.proofs.FirstLists.{best-found, best-unique, passing-holds, passing-unique, best-same}
 use Rattle.assign.proofs.Answers.{answer-complete, answer-unique}
 use Rattle.grammar.specs.Element.{Elem}
-use Rattle.grammar.specs.Leaf.{Leaf}
+use Rattle.format.specs.declared.Family.{Family}
+use Rattle.grammar.specs.Family.{LeafOf, ElementOf}
 use Rattle.member_rows.proofs.Agreeing.{Says, rows-say, says-same}
 use Rattle.judging.specs.Reach.{anyPair}
 use Rattle.records.specs.Records.{pairOf}
@@ -84,9 +84,9 @@ nothingChanges rows cols same bs k n found found' passed passed' w w' =
     )
 
 pub pairsOrRows : PairsOrRows
-pairsOrRows es xs rows r bs found found' w w' b c =
-    let there = cuts-agree (pairOf es xs) (may rows) (length xs) bs (λ m e l. sym (same-pairs r m e l)) in
-    let back = cuts-agree (may rows) (pairOf es xs) (length xs) bs (same-pairs r) in
+pairsOrRows fam es xs rows r bs found found' w w' b c =
+    let there = cuts-agree (pairOf fam es xs) (may rows) (length xs) bs (λ m e l. sym (same-pairs r m e l)) in
+    let back = cuts-agree (may rows) (pairOf fam es xs) (length xs) bs (same-pairs r) in
     best-unique (best-same there back b) c
 
 pub pairsApart : PairsApart
@@ -107,8 +107,8 @@ pairsApart may bs w any passed p q = (
 )
 
 -- ---- rows
-columns-say : {es : List (Elem Leaf)} {xs : List ℤ} {cols : List ℕ} → ColumnsOf es xs cols → Says es xs (picks cols)
+columns-say : {fam : Family} {es : List (Elem (LeafOf fam))} {xs : List (ElementOf fam)} {cols : List ℕ} → ColumnsOf fam es xs cols → Says fam es xs (picks cols)
 columns-say p = record { right = p .right; noMember = p .noMember; noElement = p .noElement }
 
 pub sameOfEveryPair : SameOfEveryPair
-sameOfEveryPair es xs rows cols r c = says-same (columns-say c) (rows-say r)
+sameOfEveryPair fam es xs rows cols r c = says-same (columns-say c) (rows-say r)

@@ -16,7 +16,7 @@
 --   is the same, the cut and the filling that are found, byte for byte, and whether an offered list passes
 -- PairsOrRows <-> so it is with the pairs themselves, by which a record of is searched: rows of the same members and list have the same first cut, byte for byte
 -- PairsApart <-> a list passes as a cut exactly where it passes with any pairs and each member in it may take its element: the judge tests the two apart
--- ColumnsOf es xs cols <-> bit e of the row of m says whether member m of es matches element e of xs; every other bit is clear: rows by member
+-- ColumnsOf f es xs cols <-> bit e of the row of m says whether member m of es matches element e of xs; every other bit is clear: rows by member
 -- SameOfEveryPair <-> "both say the same of every pair" (document 02, Four): rows by element and rows by member, of the same members and list
 -- Assumes nothing: these are statements.
 use mathlib.Core.Path.{_≡_}
@@ -26,16 +26,15 @@ use mathlib.Core.List.{List}
 use Prim.Native.Nat.{ℕ, _+_, _-_, _≤_, _<_}
 use lib.ListN.{length, getD, take}
 use lib.Seq.{slice}
-use lib.IntN.{ℤ, pos}
 use Rattle.byte_order.specs.ByteOrder.{earlier}
 use Rattle.rows.specs.Rows.{may, picks}
 use Rattle.blocks.specs.declared.Block.{Block}
 use Rattle.blocks.specs.Assignment.{Assigns, assigns, Short}
 use Rattle.blocks.specs.Pieces.{Cuts, Fills, Cutting, Filling, Passing}
 use Rattle.assign.specs.Answer.{Answer}
+use Rattle.format.specs.declared.Family.{Family}
 use Rattle.grammar.specs.Element.{Elem}
-use Rattle.grammar.specs.Leaf.{Leaf}
-use Rattle.grammar.specs.Matches.{matches}
+use Rattle.grammar.specs.Family.{LeafOf, ElementOf, noElement, matchesOf}
 use Rattle.grammar.specs.Members.{memberHits}
 use Rattle.member_rows.specs.Contract.{RowsOf}
 use Rattle.judging.specs.Reach.{anyPair}
@@ -99,8 +98,8 @@ NothingChanges = (rows cols : List ℕ) → ((m e : ℕ) → picks cols m e ≡ 
     × (Passing (Fills (picks cols) k n w) passed → Passing (Fills (may rows) k n w) passed' → passed ≡ passed')
 
 abbrev pub PairsOrRows : Type 0
-PairsOrRows = (es : List (Elem Leaf)) (xs : List ℤ) (rows : List ℕ) → RowsOf es xs rows → (bs : List Block) (found found' : Bool) (w w' : List ℕ)
-    → Cutting (pairOf es xs) bs (length xs) found w → Cutting (may rows) bs (length xs) found' w' → (found ≡ found') × (w ≡ w')
+PairsOrRows = (f : Family) (es : List (Elem (LeafOf f))) (xs : List (ElementOf f)) (rows : List ℕ) → RowsOf f es xs rows → (bs : List Block) (found found' : Bool) (w w' : List ℕ)
+    → Cutting (pairOf f es xs) bs (length xs) found w → Cutting (may rows) bs (length xs) found' w' → (found ≡ found') × (w ≡ w')
 
 abbrev pub PairsApart : Type 0
 PairsApart = (may : ℕ → ℕ → Bool) (bs : List Block) (w : List ℕ) (any passed : Bool) → Passing (Cuts anyPair bs 0 (length w) w) any → Passing (Cuts may bs 0 (length w) w) passed
@@ -108,11 +107,11 @@ PairsApart = (may : ℕ → ℕ → Bool) (bs : List Block) (w : List ℕ) (any 
     × (any ≡ true → ((e : ℕ) → e < length w → (getD w e 0 ≡ 255) ⊎ (may (getD w e 0) e ≡ true)) → passed ≡ true)
 
 -- ---- rows
-pub record ColumnsOf (es : List (Elem Leaf)) (xs : List ℤ) (cols : List ℕ) : Type 0 where
+pub record ColumnsOf (f : Family) (es : List (Elem (LeafOf f))) (xs : List (ElementOf f)) (cols : List ℕ) : Type 0 where
   pub size : length cols ≡ 32
-  pub right : (m e : ℕ) → m < length es → e < length xs → picks cols m e ≡ memberHits matches es m (getD xs e (pos 0))
+  pub right : (m e : ℕ) → m < length es → e < length xs → picks cols m e ≡ memberHits (matchesOf f) es m (getD xs e (noElement f))
   pub noMember : (m e : ℕ) → length es ≤ m → picks cols m e ≡ false
   pub noElement : (m e : ℕ) → length xs ≤ e → picks cols m e ≡ false
 
 abbrev pub SameOfEveryPair : Type 0
-SameOfEveryPair = (es : List (Elem Leaf)) (xs : List ℤ) (rows cols : List ℕ) → RowsOf es xs rows → ColumnsOf es xs cols → (m e : ℕ) → picks cols m e ≡ may rows m e
+SameOfEveryPair = (f : Family) (es : List (Elem (LeafOf f))) (xs : List (ElementOf f)) (rows cols : List ℕ) → RowsOf f es xs rows → ColumnsOf f es xs cols → (m e : ℕ) → picks cols m e ≡ may rows m e

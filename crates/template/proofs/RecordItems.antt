@@ -6,7 +6,8 @@ use native.Mathlib.Omega.{arith}
 use lib.ListN.{length, drop, take, set, replicate, length-append}
 use lib.Seq.{set-at}
 use Rattle.grammar.specs.Template.{grouped, Item, one, spares, permutation, recordOf, membersOfGroup, membersOfItem, membersOfItems, membersOf}
-use Rattle.grammar.specs.Leaf.{Leaf, leafHead}
+use Rattle.format.specs.declared.Family.{Family}
+use Rattle.grammar.specs.Family.{LeafOf, leavesOf}
 use Rattle.grammar.specs.Read.{Read, refuse, got}
 use Rattle.grammar.specs.Whole.{putItem, thenItems, item, items}
 use Rattle.grammar.specs.Blocks.{blockOfGroup, blockOfItem, blocksOfItems, blocksOf, bodyKind, Standing}
@@ -37,20 +38,20 @@ taken (suc n) [] us e = absurd (omega arith)
 taken (suc n) (v ∷ vs) us e = ap (λ (l : List ℕ). v ∷ l) (taken n vs us (omega arith))
 
 -- the block's k is how many members the item has
-item-counts : (m : ℕ) (i : Item Leaf) → blockOfItem m i .k ≡ length (membersOfItem i)
+item-counts : (fam : Family) (m : ℕ) (i : Item (LeafOf fam)) → blockOfItem m i .k ≡ length (membersOfItem i)
 unfolding blockOfItem blockOfGroup membersOfItem membersOfGroup
-item-counts m (one e) = refl
-item-counts m (spares min max) = refl
-item-counts m (permutation (grouped es st)) = refl
+item-counts fam m (one e) = refl
+item-counts fam m (spares min max) = refl
+item-counts fam m (permutation (grouped es st)) = refl
 
 -- the members of `is` are placed, and `all` are the numbers that were stored and those of their blocks
-pub record ItemsNotes (t : List ℕ) (m : ℕ) (before made : List ℕ) (count : ℕ) (after all : List ℕ) (is : List (Item Leaf)) : Type 0 where
-  pub placed : Placed t m before (membersOfItems is) count after
+pub record ItemsNotes (fam : Family) (t : List ℕ) (m : ℕ) (before made : List ℕ) (count : ℕ) (after all : List ℕ) (is : List (Item (LeafOf fam))) : Type 0 where
+  pub placed : Placed fam t m before (membersOfItems is) count after
   pub cut : all ≡ made ++ numbersOf (blocksOfItems m is)
   pub says : blocksIn all ≡ blocksIn made ++ blocksOfItems m is
 
 -- what the items from here on give is what all of them give
-pub record ItemsGoing (t : List ℕ) (at n : ℕ) (before places blocks : List ℕ) (p m k : ℕ) : Type 0 where
+pub record ItemsGoing (fam : Family) (t : List ℕ) (at n : ℕ) (before places blocks : List ℕ) (p m k : ℕ) : Type 0 where
   pub short : length t < 65536
   pub inside : p ≤ length t
   pub size : length places ≡ 32
@@ -59,11 +60,11 @@ pub record ItemsGoing (t : List ℕ) (at n : ℕ) (before places blocks : List �
   pub made : List ℕ
   pub stored : blocks ≡ made ++ replicate (32 - k) 0
   pub number : length made ≡ k
-  pub goes : (code next count : ℕ) (after all : List ℕ) → Noted (ItemsNotes t m places made count after all) t (items leafHead (n - k) m (drop p t)) code next
-      → Noted (ItemsNotes t 0 before [] count after all) t (items leafHead n 0 (drop at t)) code next
+  pub goes : (code next count : ℕ) (after all : List ℕ) → Noted (ItemsNotes fam t m places made count after all) t (items (leavesOf fam) (n - k) m (drop p t)) code next
+      → Noted (ItemsNotes fam t 0 before [] count after all) t (items (leavesOf fam) n 0 (drop at t)) code next
 
-pub items-start : (t : List ℕ) (at n : ℕ) (before blocks : List ℕ) → length t < 65536 → at ≤ length t → length before ≡ 32 → blocks ≡ replicate 32 0 → ItemsGoing t at n before before blocks at 0 0
-items-start t at n before blocks b i z e = record {
+pub items-start : (fam : Family) (t : List ℕ) (at n : ℕ) (before blocks : List ℕ) → length t < 65536 → at ≤ length t → length before ≡ 32 → blocks ≡ replicate 32 0 → ItemsGoing fam t at n before before blocks at 0 0
+items-start fam t at n before blocks b i z e = record {
   short = b;
   inside = i;
   size = z;
@@ -77,24 +78,24 @@ items-start t at n before blocks b i z e = record {
       rw whole at s;
 }
 
-module _ {t : List ℕ} {at n : ℕ} {before places blocks : List ℕ} {p m k : ℕ} (g : ItemsGoing t at n before places blocks p m k) where
+module _ {fam : Family} {t : List ℕ} {at n : ℕ} {before places blocks : List ℕ} {p m k : ℕ} (g : ItemsGoing fam t at n before places blocks p m k) where
   module _ (some : k < n) where
-    items-open : (o : Read (Item Leaf)) → item leafHead m (drop p t) ≡ o → items leafHead (n - k) m (drop p t) ≡ thenItems m o (items leafHead (n - (k + 1)))
+    items-open : (o : Read (Item (LeafOf fam))) → item (leavesOf fam) m (drop p t) ≡ o → items (leavesOf fam) (n - k) m (drop p t) ≡ thenItems m o (items (leavesOf fam) (n - (k + 1)))
     unfolding items
     items-open o q =
         let next : n - k ≡ suc (n - (k + 1)) = omega arith in
-        ap (λ (j : ℕ). items leafHead j m (drop p t)) next ∙ ap (λ (v : Read (Item Leaf)). thenItems m v (items leafHead (n - (k + 1)))) q
+        ap (λ (j : ℕ). items (leavesOf fam) j m (drop p t)) next ∙ ap (λ (v : Read (Item (LeafOf fam))). thenItems m v (items (leavesOf fam) (n - (k + 1)))) q
 
-    pub items-stop : {P : Item Leaf → Type 0} {Tells : List (Item Leaf) → Type 0} {code place next : ℕ} → Noted P t (item leafHead m (drop p t)) code place → 0 < code
-        → Noted Tells t (items leafHead n 0 (drop at t)) code next
+    pub items-stop : {P : Item (LeafOf fam) → Type 0} {Tells : List (Item (LeafOf fam)) → Type 0} {code place next : ℕ} → Noted P t (item (leavesOf fam) m (drop p t)) code place → 0 < code
+        → Noted Tells t (items (leavesOf fam) n 0 (drop at t)) code next
     unfolding thenItems
     items-stop {code = code} s l =
         let w = noted-stopped _ _ _ _ _ s l in
         stopped-on (g .goes code 0 0 [] [] (stopped (items-open (refuse code) (w .0)) l (w .1))) l
 
-    put-item : (i : Item Leaf) (v : ℕ) (places′ : List ℕ) (o : Read (List (Item Leaf))) (code next c : ℕ) (after all : List ℕ)
-        → ItemNotes t m places v places′ i → Noted (ItemsNotes t (m + length (membersOfItem i)) places′ (g .made ++ v ∷ []) c after all) t o code next
-        → Noted (ItemsNotes t m places (g .made) c after all) t (putItem i o) code next
+    put-item : (i : Item (LeafOf fam)) (v : ℕ) (places′ : List ℕ) (o : Read (List (Item (LeafOf fam)))) (code next c : ℕ) (after all : List ℕ)
+        → ItemNotes fam t m places v places′ i → Noted (ItemsNotes fam t (m + length (membersOfItem i)) places′ (g .made ++ v ∷ []) c after all) t o code next
+        → Noted (ItemsNotes fam t m places (g .made) c after all) t (putItem i o) code next
     unfolding putItem membersOfItems blocksOfItems numbersOf blocksIn
     put-item i v places′ o code next c after all h (stopped q l s) = stopped (ap (putItem i) q) l s
     put-item i v places′ o code next c after all h (noted is q z w j) =
@@ -110,12 +111,12 @@ module _ {t : List ℕ} {at n : ℕ} {before places blocks : List ℕ} {p m k : 
         }) j
 
     pub items-more : {next v : ℕ} {places′ : List ℕ} → n ≤ 32 → length places′ ≡ 32 → next ≤ 16777215
-        → Noted (ItemNotes t m places v places′) t (item leafHead m (drop p t)) (faultIn next) next → (m′ : ℕ) → m′ ≡ m + blockIn v .k → ItemsGoing t at n before places′ (set blocks k v) next m′ (k + 1)
+        → Noted (ItemNotes fam t m places v places′) t (item (leavesOf fam) m (drop p t)) (faultIn next) next → (m′ : ℕ) → m′ ≡ m + blockIn v .k → ItemsGoing fam t at n before places′ (set blocks k v) next m′ (k + 1)
     unfolding thenItems
     items-more {next = next} {v = v} {places′ = places′} limit size low s m′ e =
         let w = noted-read _ _ _ _ _ s (omega arith) in
-        let c : m′ ≡ m + length (membersOfItem (w .0)) = e ∙ ap (λ (b : Block). m + b .k) (w .2 .says .1) ∙ ap (λ (j : ℕ). m + j) (item-counts m (w .0)) in
-        let few = item-limit leafHead m (drop p t) (w .0) (drop next t) (g .few) (w .1) in
+        let c : m′ ≡ m + length (membersOfItem (w .0)) = e ∙ ap (λ (b : Block). m + b .k) (w .2 .says .1) ∙ ap (λ (j : ℕ). m + j) (item-counts fam m (w .0)) in
+        let few = item-limit (leavesOf fam) m (drop p t) (w .0) (drop next t) (g .few) (w .1) in
         record {
           short = g .short;
           inside = w .3;
@@ -129,10 +130,10 @@ module _ {t : List ℕ} {at n : ℕ} {before places blocks : List ℕ} {p m k : 
               g .goes code next′ count′ after all
               (noted-as (items-open (got (w .0) (drop next t)) (w .1))
               (put-item (w .0) v places′ _ code next′ count′ after all (w .2)
-              (subst (λ (j : ℕ). Noted (ItemsNotes t j places′ (g .made ++ v ∷ []) count′ after all) t (items leafHead (n - (k + 1)) j (drop next t)) code next′) c h)));
+              (subst (λ (j : ℕ). Noted (ItemsNotes fam t j places′ (g .made ++ v ∷ []) count′ after all) t (items (leavesOf fam) (n - (k + 1)) j (drop next t)) code next′) c h)));
         }
 
-  pub items-end : n ≤ k → n ≤ 32 → (r : ℕ) → r ≡ p + m * 65536 → Noted (RecordNotes t n (countIn r) blocks places) t (items leafHead n 0 (drop at t)) (faultIn r) (placeIn r)
+  pub items-end : n ≤ k → n ≤ 32 → (r : ℕ) → r ≡ p + m * 65536 → Noted (RecordNotes fam t n (countIn r) blocks places) t (items (leavesOf fam) n 0 (drop at t)) (faultIn r) (placeIn r)
   unfolding items membersOfItems blocksOfItems numbersOf blocksIn blocksOf bodyKind membersOf Standing
   items-end done limit r e =
       let none : n - k ≡ 0 = omega arith in
@@ -145,8 +146,8 @@ module _ {t : List ℕ} {at n : ℕ} {before places blocks : List ℕ} {p m k : 
       let sound : faultIn r ≡ 0 = omega arith in
       let w = noted-read _ _ _ _ _
       (g .goes 0 p m places (g .made)
-      (subst (λ (j : ℕ). Noted (ItemsNotes t m places (g .made) m places (g .made)) t (items leafHead j m (drop p t)) 0 p) (sym none)
-      (noted [] refl refl (record { placed = placed-none t m places; cut = sym (append-nil (g .made)); says = sym (append-nil (blocksIn (g .made))) }) (g .inside)))) refl in
+      (subst (λ (j : ℕ). Noted (ItemsNotes fam t m places (g .made) m places (g .made)) t (items (leavesOf fam) j m (drop p t)) 0 p) (sym none)
+      (noted [] refl refl (record { placed = placed-none fam t m places; cut = sym (append-nil (g .made)); says = sym (append-nil (blocksIn (g .made))) }) (g .inside)))) refl in
       let long : length (g .made) ≡ n = g .number ∙ turns in
       noted (w .0) (w .1 ∙ ap (λ (q : ℕ). got (w .0) (drop q t)) (sym place)) sound
       (record {
@@ -155,5 +156,5 @@ module _ {t : List ℕ} {at n : ℕ} {before places blocks : List ℕ} {p m k : 
         cut = ap (λ (l : List ℕ). blocksIn (take n l)) (g .stored) ∙ ap blocksIn (taken n (g .made) (replicate (32 - k) 0) long) ∙ w .2 .says;
         stored = g .stored ∙ ap₂ (λ (l : List ℕ) (j : ℕ). l ++ replicate (32 - j) 0) (w .2 .cut) turns;
         size = count ∙ sym (w .2 .placed .counts) ∙ omega arith;
-        stands = subst (λ (j : ℕ). Standing t (membersOfItems (w .0)) (take j places)) (sym count) (w .2 .placed .stands [] tt);
+        stands = subst (λ (j : ℕ). Standing fam t (membersOfItems (w .0)) (take j places)) (sym count) (w .2 .placed .stands [] tt);
       }) (omega (arith, w .3))

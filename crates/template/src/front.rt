@@ -2,6 +2,7 @@
 ghost use mathlib.Core.Path.{_≡_};
 ghost use Prim.Native.Nat.{_≤_};
 ghost use lib.ListN.{length};
+ghost use Rattle.format.specs.declared.Family.{Family};
 ghost use Rattle.grammar.specs.Whole.{fewest, clashes};
 ghost use Rattle.template.specs.Fronts.{lengthOf, HeadsOf, BodyHead};
 use elements::count_fault;
@@ -30,7 +31,7 @@ pub struct Heads {
 
 // The heads of the template at the front of t.
 pub fn heads_of(t: &[u8]) -> Heads
-    ensures { λ r. ⌜ HeadsOf (now (t .entry)) r ⌝ }
+    ensures { λ r. ⌜ ((f : Family) → HeadsOf f (now (t .entry)) r) ⌝ }
 {
     if kind_at(t, 0) != LENGTH {
         return Heads {
@@ -78,7 +79,7 @@ fn fewest_items(kind: u8) -> u8
 // The fault of the body's record after these heads, or 0.
 pub fn body_fault(t: &[u8], heads: Heads) -> u8
     requires { ⌜ heads .next ≤ length (now t) ⌝ }
-    ensures { λ r. ⌜ BodyHead (now (t .entry)) (lengthOf (heads .given) (heads .min) (heads .max)) (heads .next) r ⌝ }
+    ensures { λ r. ⌜ ((f : Family) → BodyHead f (now (t .entry)) (lengthOf (heads .given) (heads .min) (heads .max)) (heads .next) r) ⌝ }
 {
     let at = heads.next;
     if at == t.len() {

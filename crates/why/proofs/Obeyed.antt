@@ -12,7 +12,6 @@ use Prim.Native.Nat.{ℕ, _+_, _≤_, _<_}
 use native.Mathlib.Nat.{zero-add}
 use native.Mathlib.Omega.{arith}
 use lib.ListN.{length, getD}
-use lib.IntN.{ℤ, pos}
 use borrow.Author.Tests.{lt-ltb}
 use Rattle.facts.proofs.Cases.{by-test, same?, below, and-left}
 use Rattle.blocks.specs.Assignment.{Assigns, allRight, allOnce, assigns}
@@ -20,10 +19,10 @@ use Rattle.blocks.proofs.Assignments.{assigns-test, short-never}
 use Rattle.facts.proofs.Counting.{cnt-two}
 use Rattle.blocks.specs.Pieces.{Cuts, Fills}
 use Rattle.grammar.specs.Element.{Elem}
-use Rattle.grammar.specs.Leaf.{Leaf}
+use Rattle.format.specs.declared.Family.{Family}
+use Rattle.grammar.specs.Family.{LeafOf, ElementOf, noElement, matchesOf}
 use Rattle.grammar.specs.Template.{Body, recordOf, setOf, superset, subset, Length, Template, template, membersOf}
 use Rattle.grammar.specs.Blocks.{blocksOf}
-use Rattle.grammar.specs.Matches.{matches}
 use Rattle.grammar.specs.Members.{memberHits}
 use Rattle.matching.specs.Obeys.{lengthMet, obeys}
 use Rattle.matching.specs.Search.{membersCount}
@@ -35,11 +34,11 @@ use Rattle.reasons.proofs.Choices.{listed, listed-size, listed-at, listed-once,
 use Rattle.why.specs.Why.{pairs, Asked, ofNothing, ofGroups, askedBy, askedOf}
 use Rattle.why.specs.Unmatched.{Explained, aSuperset, aSubset}
 
-pub pairs-agree : (es : List (Elem Leaf)) (xs : List ℤ) → Agree matches es 0 xs (pairs es xs)
+pub pairs-agree : (fam : Family) (es : List (Elem (LeafOf fam))) (xs : List (ElementOf fam)) → Agree (matchesOf fam) es 0 xs (pairs fam es xs)
 unfolding pairs
-pairs-agree es xs = agree-from es (pairs es xs) 0 xs (λ m i l. rw (zero-add i) (ap (λ b. b && memberHits matches es m (getD xs i (pos 0))) (lt-ltb i (length xs) l)))
+pairs-agree fam es xs = agree-from fam es (pairs fam es xs) 0 xs (λ m i l. rw (zero-add i) (ap (λ b. b && memberHits (matchesOf fam) es m (getD xs i (noElement fam))) (lt-ltb i (length xs) l)))
 
-module _ (es : List (Elem Leaf)) (ok : ℕ → ℕ → Bool) (n : ℕ) (few : length es ≤ 32) (short : n ≤ 32) (w : List ℕ) where
+module _ {L : Type 0} (es : List (Elem L)) (ok : ℕ → ℕ → Bool) (n : ℕ) (few : length es ≤ 32) (short : n ≤ 32) (w : List ℕ) where
   superset-assigns : ByBlocks (superset es) ok n w → Assigns ok 0 (length es) 0 n w
   unfolding ByBlocks blocksOf Cuts
   superset-assigns c =
@@ -68,7 +67,7 @@ module _ (es : List (Elem Leaf)) (ok : ℕ → ℕ → Bool) (n : ℕ) (few : le
       twice : (i j : ℕ) → i < j → j < n → getD w i 0 ≡ getD w j 0 → ⊥
       twice i j l b q = let size = f .size in let two = cnt-two w i j l (omega arith) q in let one = f .once (getD w j 0) (f .member j b) in omega arith
 
-chosen-subset : (es : List (Elem Leaf)) (ok : ℕ → ℕ → Bool) (n : ℕ) (f : ℕ → ℕ) → Chosen (λ e m. ok m e) n (length es) f → Fills ok (length es) n (listed f n)
+chosen-subset : {L : Type 0} (es : List (Elem L)) (ok : ℕ → ℕ → Bool) (n : ℕ) (f : ℕ → ℕ) → Chosen (λ e m. ok m e) n (length es) f → Fills ok (length es) n (listed f n)
 chosen-subset es ok n f c = record {
   size = listed-size f n;
   member = λ e l. subst (λ (y : ℕ). y < length es) (sym (listed-at f n e l)) (c .low e l);
@@ -76,64 +75,64 @@ chosen-subset es ok n f c = record {
   once = λ m l. listed-once f n m (c .apart);
 }
 
-module _ (a : Length) (es : List (Elem Leaf)) (xs : List ℤ) (few : length es ≤ 32) (short : length xs ≤ 32) where
+module _ (fam : Family) (a : Length) (es : List (Elem (LeafOf fam))) (xs : List (ElementOf fam)) (few : length es ≤ 32) (short : length xs ≤ 32) where
   -- ---- a superset: its members on the elements
-  superset-unmet : (G : ℕ → Bool) → ShortGroup (pairs es xs) (length es) (length xs) G → (w : List ℕ) → obeys (template a (superset es)) xs w ≡ true → ⊥
+  superset-unmet : (G : ℕ → Bool) → ShortGroup (pairs fam es xs) (length es) (length xs) G → (w : List ℕ) → obeys fam (template a (superset es)) xs w ≡ true → ⊥
   unfolding membersOf
   superset-unmet G s w o =
-      let c = obeys-says matches a (superset es) (pairs es xs) xs (pairs-agree es xs) few short w o .0 in
-      short-never (group-short s) (omega arith) (omega arith) short w (superset-assigns es (pairs es xs) (length xs) few short w c)
+      let c = obeys-says (matchesOf fam) a (superset es) (pairs fam es xs) xs (pairs-agree fam es xs) few short w o .0 in
+      short-never (group-short s) (omega arith) (omega arith) short w (superset-assigns es (pairs fam es xs) (length xs) few short w c)
 
-  superset-met : lengthMet a (length xs) ≡ true → (f : ℕ → ℕ) → Chosen (pairs es xs) (length es) (length xs) f → (w : List ℕ) × (obeys (template a (superset es)) xs w ≡ true)
+  superset-met : lengthMet a (length xs) ≡ true → (f : ℕ → ℕ) → Chosen (pairs fam es xs) (length es) (length xs) f → (w : List ℕ) × (obeys fam (template a (superset es)) xs w ≡ true)
   unfolding membersOf
   superset-met m f c =
-      let w = chosen-assigns (pairs es xs) (length es) (length xs) f few c in
-      (w .0, obeys-test matches a (superset es) (pairs es xs) xs (pairs-agree es xs) few short (w .0) (assigns-superset es (pairs es xs) (length xs) few short (w .0) (w .1)) m)
+      let w = chosen-assigns (pairs fam es xs) (length es) (length xs) f few c in
+      (w .0, obeys-test (matchesOf fam) a (superset es) (pairs fam es xs) xs (pairs-agree fam es xs) few short (w .0) (assigns-superset es (pairs fam es xs) (length xs) few short (w .0) (w .1)) m)
 
   -- ---- a subset: the elements on its members
-  subset-unmet : (G : ℕ → Bool) → ShortGroup (λ e m. pairs es xs m e) (length xs) (length es) G → (w : List ℕ) → obeys (template a (subset es)) xs w ≡ true → ⊥
+  subset-unmet : (G : ℕ → Bool) → ShortGroup (λ e m. pairs fam es xs m e) (length xs) (length es) G → (w : List ℕ) → obeys fam (template a (subset es)) xs w ≡ true → ⊥
   unfolding membersOf ByBlocks
   subset-unmet G s w o =
-      let f = obeys-says matches a (subset es) (pairs es xs) xs (pairs-agree es xs) few short w o .0 in
-      chosen-never short few (subset-chosen es (pairs es xs) (length xs) few short w f) s
+      let f = obeys-says (matchesOf fam) a (subset es) (pairs fam es xs) xs (pairs-agree fam es xs) few short w o .0 in
+      chosen-never short few (subset-chosen es (pairs fam es xs) (length xs) few short w f) s
 
-  subset-met : lengthMet a (length xs) ≡ true → (f : ℕ → ℕ) → Chosen (λ e m. pairs es xs m e) (length xs) (length es) f → (w : List ℕ) × (obeys (template a (subset es)) xs w ≡ true)
+  subset-met : lengthMet a (length xs) ≡ true → (f : ℕ → ℕ) → Chosen (λ e m. pairs fam es xs m e) (length xs) (length es) f → (w : List ℕ) × (obeys fam (template a (subset es)) xs w ≡ true)
   unfolding membersOf ByBlocks
   subset-met m f c =
       let w = listed f (length xs) in
-      (w, obeys-test matches a (subset es) (pairs es xs) xs (pairs-agree es xs) few short w (chosen-subset es (pairs es xs) (length xs) f c) m)
+      (w, obeys-test (matchesOf fam) a (subset es) (pairs fam es xs) xs (pairs-agree fam es xs) few short w (chosen-subset es (pairs fam es xs) (length xs) f c) m)
 
 -- ---- what is asked
-pub record Question (s : Template Leaf) (xs : List ℤ) (ok : ℕ → ℕ → Bool) (k n : ℕ) : Type 0 where
+pub record Question (fam : Family) (s : Template (LeafOf fam)) (xs : List (ElementOf fam)) (ok : ℕ → ℕ → Bool) (k n : ℕ) : Type 0 where
   pub few : k ≤ 32
   pub short : n ≤ 32
   pub explained : Explained s xs
-  pub unmet : (G : ℕ → Bool) → ShortGroup ok k n G → (w : List ℕ) → obeys s xs w ≡ true → ⊥
-  pub met : (f : ℕ → ℕ) → Chosen ok k n f → (w : List ℕ) × (obeys s xs w ≡ true)
+  pub unmet : (G : ℕ → Bool) → ShortGroup ok k n G → (w : List ℕ) → obeys fam s xs w ≡ true → ⊥
+  pub met : (f : ℕ → ℕ) → Chosen ok k n f → (w : List ℕ) × (obeys fam s xs w ≡ true)
 
-unfoldable Sensible : Template Leaf → List ℤ → Asked → Type 0
-Sensible s xs ofNothing = Unit {0}
-Sensible s xs (ofGroups ok k n) = Question s xs ok k n
+unfoldable Sensible : (fam : Family) → Template (LeafOf fam) → List (ElementOf fam) → Asked → Type 0
+Sensible fam s xs ofNothing = Unit {0}
+Sensible fam s xs (ofGroups ok k n) = Question fam s xs ok k n
 
-body-sensible : (a : Length) (b : Body Leaf) (xs : List ℤ) → length (membersOf b) ≤ 32 → length xs ≤ 32 → lengthMet a (length xs) ≡ true → Sensible (template a b) xs (askedBy b xs)
+body-sensible : (fam : Family) (a : Length) (b : Body (LeafOf fam)) (xs : List (ElementOf fam)) → length (membersOf b) ≤ 32 → length xs ≤ 32 → lengthMet a (length xs) ≡ true → Sensible fam (template a b) xs (askedBy fam b xs)
 unfolding Sensible askedBy membersOf
-body-sensible a (recordOf is) xs few short m = tt
-body-sensible a (setOf g) xs few short m = tt
-body-sensible a (superset es) xs few short m = record { few = omega arith; short = omega arith; explained = aSuperset a es xs m; unmet = superset-unmet a es xs few short; met = superset-met a es xs few short m }
-body-sensible a (subset es) xs few short m = record { few = omega arith; short = omega arith; explained = aSubset a es xs m; unmet = subset-unmet a es xs few short; met = subset-met a es xs few short m }
+body-sensible fam a (recordOf is) xs few short m = tt
+body-sensible fam a (setOf g) xs few short m = tt
+body-sensible fam a (superset es) xs few short m = record { few = omega arith; short = omega arith; explained = aSuperset a es xs m; unmet = superset-unmet fam a es xs few short; met = superset-met fam a es xs few short m }
+body-sensible fam a (subset es) xs few short m = record { few = omega arith; short = omega arith; explained = aSubset a es xs m; unmet = subset-unmet fam a es xs few short; met = subset-met fam a es xs few short m }
 
-asked-sensible : (s : Template Leaf) (xs : List ℤ) → membersCount s ≤ 32 → length xs ≤ 32 → Sensible s xs (askedOf s xs)
+asked-sensible : (fam : Family) (s : Template (LeafOf fam)) (xs : List (ElementOf fam)) → membersCount s ≤ 32 → length xs ≤ 32 → Sensible fam s xs (askedOf fam s xs)
 unfolding Sensible askedOf membersCount
-asked-sensible (template a b) xs few short = by-test (lengthMet a (length xs))
-    (λ m. subst (λ (t : Bool). Sensible (template a b) xs (cond t (askedBy b xs) ofNothing)) (sym m) (body-sensible a b xs few short m))
-    (λ m. subst (λ (t : Bool). Sensible (template a b) xs (cond t (askedBy b xs) ofNothing)) (sym m) tt)
+asked-sensible fam (template a b) xs few short = by-test (lengthMet a (length xs))
+    (λ m. subst (λ (t : Bool). Sensible fam (template a b) xs (cond t (askedBy fam b xs) ofNothing)) (sym m) (body-sensible fam a b xs few short m))
+    (λ m. subst (λ (t : Bool). Sensible fam (template a b) xs (cond t (askedBy fam b xs) ofNothing)) (sym m) tt)
 
-pub asked-question : {s : Template Leaf} {xs : List ℤ} {ok : ℕ → ℕ → Bool} {k n : ℕ} → membersCount s ≤ 32 → length xs ≤ 32 → askedOf s xs ≡ ofGroups ok k n → Question s xs ok k n
+pub asked-question : {fam : Family} {s : Template (LeafOf fam)} {xs : List (ElementOf fam)} {ok : ℕ → ℕ → Bool} {k n : ℕ} → membersCount s ≤ 32 → length xs ≤ 32 → askedOf fam s xs ≡ ofGroups ok k n → Question fam s xs ok k n
 unfolding Sensible
-asked-question {s} {xs} few short q = subst (Sensible s xs) q (asked-sensible s xs few short)
+asked-question {fam} {s} {xs} few short q = subst (Sensible fam s xs) q (asked-sensible fam s xs few short)
 
 -- something is asked of what is to be explained
-pub explained-asked : {s : Template Leaf} {xs : List ℤ} → Explained s xs → (ok : ℕ → ℕ → Bool) × (k : ℕ) × (n : ℕ) × (askedOf s xs ≡ ofGroups ok k n)
+pub explained-asked : (fam : Family) {s : Template (LeafOf fam)} {xs : List (ElementOf fam)} → Explained s xs → (ok : ℕ → ℕ → Bool) × (k : ℕ) × (n : ℕ) × (askedOf fam s xs ≡ ofGroups ok k n)
 unfolding askedOf askedBy
-explained-asked (aSuperset a es xs m) = (pairs es xs, length es, length xs, ap (λ (t : Bool). cond t (ofGroups (pairs es xs) (length es) (length xs)) ofNothing) m)
-explained-asked (aSubset a es xs m) = ((λ e m. pairs es xs m e), length xs, length es, ap (λ (t : Bool). cond t (ofGroups (λ e m. pairs es xs m e) (length xs) (length es)) ofNothing) m)
+explained-asked fam (aSuperset a es xs m) = (pairs fam es xs, length es, length xs, ap (λ (t : Bool). cond t (ofGroups (pairs fam es xs) (length es) (length xs)) ofNothing) m)
+explained-asked fam (aSubset a es xs m) = ((λ e m. pairs fam es xs m e), length xs, length es, ap (λ (t : Bool). cond t (ofGroups (λ e m. pairs fam es xs m e) (length xs) (length es)) ofNothing) m)

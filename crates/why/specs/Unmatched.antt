@@ -1,5 +1,5 @@
 -- When a group is to be given.
--- Unmatched t xs s <-> t is accepted as s, no row of the table holds, and no assignment obeys
+-- Unmatched f t xs s <-> t is accepted as s, no row of the table holds, and no assignment obeys
 -- Explained s xs <-> s is a superset or a subset, and any length attribute is met
 -- Assumes nothing: these are definitions.
 use mathlib.Core.Path.{_≡_}
@@ -7,20 +7,20 @@ use mathlib.Core.Bool.{true}
 use mathlib.Core.List.{List, []}
 use Prim.Native.Nat.{ℕ}
 use lib.ListN.{length}
-use lib.IntN.{ℤ}
 use Rattle.grammar.specs.Element.{Elem}
-use Rattle.grammar.specs.Leaf.{Leaf, leafHead}
+use Rattle.format.specs.declared.Family.{Family}
+use Rattle.grammar.specs.Family.{LeafOf, leavesOf, ElementOf}
 use Rattle.grammar.specs.Read.{got}
 use Rattle.grammar.specs.Template.{superset, subset, Length, Template, template}
 use Rattle.grammar.specs.Whole.{readTemplate}
 use Rattle.matching.specs.Obeys.{obeys, lengthMet}
 use Rattle.matching.specs.Answer.{Taken}
 
-pub record Unmatched (t : List ℕ) (xs : List ℤ) (s : Template Leaf) : Type 0 where
+pub record Unmatched (f : Family) (t : List ℕ) (xs : List (ElementOf f)) (s : Template (LeafOf f)) : Type 0 where
   pub taken : Taken t xs
-  pub reading : readTemplate leafHead t ≡ got s []
-  pub none : (w : List ℕ) → obeys s xs w ≡ true → ⊥
+  pub reading : readTemplate (leavesOf f) t ≡ got s []
+  pub none : (w : List ℕ) → obeys f s xs w ≡ true → ⊥
 
-pub data Explained : Template Leaf → List ℤ → Type 0 where
-  aSuperset : (a : Length) (es : List (Elem Leaf)) (xs : List ℤ) → lengthMet a (length xs) ≡ true → Explained (template a (superset es)) xs
-  aSubset : (a : Length) (es : List (Elem Leaf)) (xs : List ℤ) → lengthMet a (length xs) ≡ true → Explained (template a (subset es)) xs
+pub data Explained {L X : Type 0} : Template L → List X → Type 0 where
+  aSuperset : (a : Length) (es : List (Elem L)) (xs : List X) → lengthMet a (length xs) ≡ true → Explained (template a (superset es)) xs
+  aSubset : (a : Length) (es : List (Elem L)) (xs : List X) → lengthMet a (length xs) ≡ true → Explained (template a (subset es)) xs

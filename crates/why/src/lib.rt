@@ -2,10 +2,15 @@
 ghost use mathlib.Core.Path.{_≡_};
 ghost use mathlib.Core.Bool.{_||_};
 ghost use lib.Dec.{eqb};
+ghost use Rattle.format.specs.declared.Family.{Family};
+ghost use Rattle.grammar.specs.Family.{listOf, Lent};
 ghost use Rattle.plans.specs.Plans.{PlanOf};
+ghost use Rattle.matcher.specs.Contract.{Planning};
 ghost use Rattle.why.specs.Why.{WhyOf};
 ghost use Rattle.why.specs.Contract.{GroupFor};
+use elements::Sort;
 use format::DONE;
+use format::Family;
 use format::LIST_MOST;
 use format::NO_MATCH;
 use format::SUBSET;
@@ -32,17 +37,18 @@ fn is_explained(kind: u8) -> bool
 }
 
 // The group, 0 where no group is short and where none is asked for.
-fn group_of(template: &[u8], plan: Plan, list: &[i32]) -> u32
-    requires { ⌜ PlanOf (now template) plan ⌝ }
-    ensures { λ r. ⌜ GroupFor (now (template .entry)) (now (list .entry)) r ⌝ }
+fn group_of(template: &[u8], plan: Plan, integers: &[i32], floats: &[f64]) -> u32
+    requires { ⌜ Planning (now template) plan (now integers) (now floats) ⌝ }
+    ensures { λ r. ⌜ ((f : Family) → PlanOf f (now (template .entry)) plan → Lent f (now (integers .entry)) (now (floats .entry)) → GroupFor f (now (template .entry)) (listOf f (now (integers .entry)) (now (floats .entry))) r) ⌝ }
 {
-    if LIST_MOST < list.len() {
+    let size = integers.len() + floats.len();
+    if LIST_MOST < size {
         return 0;
     }
     if plan.number != DONE {
         return 0;
     }
-    if !length_met(plan.low, plan.high, list.len()) {
+    if !length_met(plan.low, plan.high, size) {
         return 0;
     }
     let kind = plan.kind;
@@ -50,21 +56,22 @@ fn group_of(template: &[u8], plan: Plan, list: &[i32]) -> u32
         return 0;
     }
     let k = plan.members as u8;
-    let n = list.len() as u8;
-    let rows = rows_of(template, &plan.places, plan.members, list);
+    let n = size as u8;
+    let rows = rows_of(template, &plan.places, plan.members, integers, floats);
     if kind == SUPERSET {
         return reason(&rows, k, n);
     }
     exchanged_reason(&rows, k, n)
 }
 
-// The matcher's number for this list, and why it does not match. A group shows that nothing obeys, so it is looked for first: the search is
-// for lists without one.
-pub fn why_not(template: &[u8], list: &[i32]) -> Why
-    ensures { λ r. ⌜ WhyOf (now (template .entry)) (now (list .entry)) (r .number) (r .group) ⌝ }
+// The matcher's number for a list of this sort, and why it does not match. A group shows that nothing obeys, so it is looked for first: the
+// search is for lists without one.
+fn why_any(template: &[u8], sort: Sort, integers: &[i32], floats: &[f64]) -> Why
+    requires { ⌜ Lent (sort .family) (now integers) (now floats) ⌝ }
+    ensures { λ r. ⌜ WhyOf (sort .family) (now (template .entry)) (listOf (sort .family) (now (integers .entry)) (now (floats .entry))) (r .number) (r .group) ⌝ }
 {
-    let plan = plan_of(template);
-    let group = group_of(template, plan, list);
+    let plan = plan_of(template, sort);
+    let group = group_of(template, plan, integers, floats);
     if group != 0 {
         return Why {
             number: NO_MATCH,
@@ -72,6 +79,28 @@ pub fn why_not(template: &[u8], list: &[i32]) -> Why
         };
     }
     let mut room = [0u8; 32];
-    let number = match_planned(template, plan, list, &mut room);
+    let number = match_planned(template, plan, integers, floats, &mut room);
     Why { number, group }
+}
+
+// The matcher's number for this list of integers, and why it does not match.
+pub fn why_not(template: &[u8], list: &[i32]) -> Why
+    ensures { λ r. ⌜ WhyOf Family.Integers (now (template .entry)) (now (list .entry)) (r .number) (r .group) ⌝ }
+{
+    let none = [0.0f64; 1];
+    let sort = Sort {
+        family: Family::Integers,
+    };
+    why_any(template, sort, list, &none[..0])
+}
+
+// The same for a list of floats.
+pub fn why_not_floats(template: &[u8], list: &[f64]) -> Why
+    ensures { λ r. ⌜ WhyOf Family.Floats (now (template .entry)) (now (list .entry)) (r .number) (r .group) ⌝ }
+{
+    let none = [0i32; 1];
+    let sort = Sort {
+        family: Family::Floats,
+    };
+    why_any(template, sort, &none[..0], list)
 }

@@ -7,7 +7,6 @@ use Prim.Native.Nat.{ℕ, _+_, _-_, _≤_, _<_}
 use native.Mathlib.Omega.{arith}
 use borrow.Author.Tests.{ltb-true, ltb-false}
 use lib.Dec.{ltb}
-use lib.IntN.{ℤ}
 use lib.ListN.{length, getD, take, replicate}
 use Rattle.facts.proofs.Cases.{below, clash, one-of}
 use Rattle.facts.proofs.Spans.{between-past}
@@ -17,7 +16,8 @@ use Rattle.blocks.proofs.FirstLists.{best-same, none-best}
 use Rattle.assign.specs.Answer.{Answer}
 use Rattle.rows.specs.Rows.{may}
 use Rattle.grammar.specs.Element.{Elem}
-use Rattle.grammar.specs.Leaf.{Leaf}
+use Rattle.format.specs.declared.Family.{Family}
+use Rattle.grammar.specs.Family.{LeafOf, ElementOf}
 use Rattle.grammar.specs.Matches.{matches}
 use Rattle.member_rows.specs.Contract.{RowsOf}
 use Rattle.places.specs.Ways.{Agrees}
@@ -53,20 +53,20 @@ module _ (may : ℕ → ℕ → Bool) (b : Block) (n : ℕ) where
 
 -- ---- the rows say which member matches which element
 
-module _ (es : List (Elem Leaf)) (xs : List ℤ) (rows : List ℕ) (r : RowsOf es xs rows) where
-  agrees : (b : Block) → Agrees (may rows) (pairOf es xs) b (length xs)
-  agrees b = record { same = λ m e i l. same-pairs r m e l }
+module _ (fam : Family) (es : List (Elem (LeafOf fam))) (xs : List (ElementOf fam)) (n : ℕ) (rows : List ℕ) (size : length xs ≡ n) (r : RowsOf fam es xs rows) where
+  agrees : (b : Block) → Agrees (may rows) (pairOf fam es xs) b n
+  agrees b = record { same = λ m e i l. same-pairs r m e (omega arith) }
 
-  pub cutting-pairs : (b : Block) {found : Bool} {w : List ℕ} → Cutting (may rows) (b ∷ []) (length xs) found w → Cutting (pairOf es xs) (b ∷ []) (length xs) found w
+  pub cutting-pairs : (b : Block) {found : Bool} {w : List ℕ} → Cutting (may rows) (b ∷ []) n found w → Cutting (pairOf fam es xs) (b ∷ []) n found w
   cutting-pairs b h = best-same
-      (λ v c. takes-cut (pairOf es xs) b (length xs) v (takes-agree (agrees b) (omega arith) (cut-takes (may rows) b (length xs) v c)))
-      (λ v c. takes-cut (may rows) b (length xs) v (takes-agree (agrees-turn (agrees b)) (omega arith) (cut-takes (pairOf es xs) b (length xs) v c)))
+      (λ v c. takes-cut (pairOf fam es xs) b n v (takes-agree (agrees b) (omega arith) (cut-takes (may rows) b n v c)))
+      (λ v c. takes-cut (may rows) b n v (takes-agree (agrees-turn (agrees b)) (omega arith) (cut-takes (pairOf fam es xs) b n v c)))
       h
 
-  pub filling-pairs : (k : ℕ) {found : Bool} {w : List ℕ} → Filling (may rows) k (length xs) found w → Filling (pairOf es xs) k (length xs) found w
+  pub filling-pairs : (k : ℕ) {found : Bool} {w : List ℕ} → Filling (may rows) k n found w → Filling (pairOf fam es xs) k n found w
   filling-pairs k h = best-same
-      (λ v f. record { size = f .size; member = f .member; right = λ e l. sym (same-pairs r (getD v e 0) e l) ∙ f .right e l; once = f .once })
-      (λ v f. record { size = f .size; member = f .member; right = λ e l. same-pairs r (getD v e 0) e l ∙ f .right e l; once = f .once })
+      (λ v f. record { size = f .size; member = f .member; right = λ e l. sym (same-pairs r (getD v e 0) e (omega arith)) ∙ f .right e l; once = f .once })
+      (λ v f. record { size = f .size; member = f .member; right = λ e l. same-pairs r (getD v e 0) e (omega arith) ∙ f .right e l; once = f .once })
       h
 
 -- the test of the length, as the code makes it

@@ -14,6 +14,11 @@ use Rattle.witnesses.proofs.first_witness.Kinds as first-kinds
 abbrev made : Bool → List ℕ → Found
 made found w = record { found = found; w = w }
 
-pub first-witness-unique : (κs : Lfts 4) (a : Dens κs first-kinds.ps) (r r' : resT first-kinds.r κs .Denot) (s s' : AtExit (endedOf 4 first-kinds.ps first-kinds.r) κs)
+pub first-witness-unique : (κs : Lfts 5) (a : Dens κs first-kinds.ps) (r r' : resT first-kinds.r κs .Denot) (s s' : AtExit (endedOf 5 first-kinds.ps first-kinds.r) κs)
     → first-reads.Pre κs a → first-reads.Post κs a r s → first-reads.Post κs a r' s' → r ≡ r'
-first-witness-unique κs a r r' s s' w p q = let u = best-unique (p (w .0 .who) (w .0 .stands)) (q (w .0 .who) (w .0 .stands)) in ap₂ made (u .0) (u .1)
+first-witness-unique κs a r r' s s' w p q =
+    let served = w .0 in
+    let who = served .placed .who in
+    let stands = served .placed .stands in
+    let u = best-unique (p (served .family) (served .lent) who stands) (q (served .family) (served .lent) who stands) in
+    ap₂ made (u .0) (u .1)

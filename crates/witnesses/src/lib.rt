@@ -3,12 +3,13 @@ ghost use mathlib.Core.List.{List, [], _∷_};
 ghost use Prim.Native.Nat.{_+_, _≤_};
 ghost use lib.ListN.{length, take};
 ghost use Rattle.grammar.specs.Element.{Elem};
-ghost use Rattle.grammar.specs.Leaf.{Leaf};
+ghost use Rattle.format.specs.declared.Family.{Family};
+ghost use Rattle.grammar.specs.Family.{LeafOf, listOf, Lent};
 ghost use Rattle.grammar.specs.Blocks.{Standing};
 ghost use Rattle.rows.specs.Rows.{may};
 ghost use Rattle.blocks.specs.Numbers.{blocksIn};
 ghost use Rattle.blocks.specs.Pieces.{Best, Cutting};
-ghost use Rattle.member_rows.specs.Places.{MembersAt};
+ghost use Rattle.member_rows.specs.Places.{Served};
 ghost use Rattle.records.specs.Records.{pairOf, Below};
 ghost use Rattle.witnesses.specs.ByKind.{Allows, OneBlock};
 use assign::first_assignment;
@@ -48,16 +49,17 @@ pub fn first_witness(
     kind: u8,
     blocks: &[u32; 32],
     count: usize,
-    list: &[i32],
+    integers: &[i32],
+    floats: &[f64],
 ) -> Found
-    requires { ⌜ MembersAt (now t) (now places) members × (count ≤ 32) × (length (now list) ≤ 32) × Below members (blocksIn (take count (now blocks))) × OneBlock kind count (now blocks) ⌝ }
-    ensures { λ r. ⌜ ((es : List (Elem Leaf)) → Standing (now (t .entry)) es (take members (now (places .entry))) → Best (Allows kind (blocksIn (take count (now (blocks .entry)))) members (pairOf es (now (list .entry))) (length (now (list .entry)))) (length (now (list .entry))) (r .found) (r .w)) ⌝ }
+    requires { ⌜ Served (now t) (now places) members (now integers) (now floats) × (count ≤ 32) × Below members (blocksIn (take count (now blocks))) × OneBlock kind count (now blocks) ⌝ }
+    ensures { λ r. ⌜ ((f : Family) → Lent f (now (integers .entry)) (now (floats .entry)) → (es : List (Elem (LeafOf f))) → Standing f (now (t .entry)) es (take members (now (places .entry))) → Best (Allows kind (blocksIn (take count (now (blocks .entry)))) members (pairOf f es (listOf f (now (integers .entry)) (now (floats .entry)))) (length (now (integers .entry)) + length (now (floats .entry)))) (length (now (integers .entry)) + length (now (floats .entry))) (r .found) (r .w)) ⌝ }
 {
     if kind == RECORD_OF {
-        return first_in_record(t, places, members, blocks, count, list);
+        return first_in_record(t, places, members, blocks, count, integers, floats);
     }
-    let rows = rows_of(t, places, members, list);
-    let n = list.len() as u8;
+    let rows = rows_of(t, places, members, integers, floats);
+    let n = (integers.len() + floats.len()) as u8;
     if kind == SUBSET {
         return first_filling(&rows, members as u8, n);
     }

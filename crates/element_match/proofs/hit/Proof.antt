@@ -11,10 +11,10 @@ with-requires : tie.Need-with-requires
 with-requires c κs = search needs
 
 hits-requires : tie.Need-hits-requires
-hits-requires c κs = let p = c .before .before .pre in (p .0, p .1, asked-one _ _ _ (p .2) (c .with .ensures))
+hits-requires c κs = let p = c .before .before .before .pre in record { family = p .family; here = p .here; short = p .short; among = asked-one _ _ _ (p .inside) (c .with .ensures) }
 
 returns : tie.Need-returns
-returns c = only-one _ _ _ _ _ _ (c .before .with .ensures) (c .hits .ensures)
+returns c = only-one _ _ _ _ _ _ _ (c .before .with .ensures) (c .hits .ensures)
 
 pub hit-spec : {M : Type 1} → statement M
 hit-spec = tie.close (tie.spec cast-with with-requires hits-requires returns)

@@ -2,13 +2,13 @@
 use mathlib.Core.Path.{refl, _∙_}
 use Rattle.integers.specs.Integer.{Word}
 use Rattle.integers.proofs.SignedLocals.{again-same}
-use Rattle.element_match.proofs.Walks.{whole-here, leaf-there, leaf-one}
+use Rattle.element_match.proofs.Walks.{leaf-one}
 use borrow.Author.Needs.{needs}
 use Rattle.element_match.proofs.leaf_hit.Statement.{statement}
 use Rattle.element_match.proofs.leaf_hit.Tie as tie
 
 bounds-at-requires : tie.Need-bounds-at-requires
-bounds-at-requires c κs = let s = c .before in leaf-there _ _ _ (whole-here _ _ (s .pre .0)) (s .pre .1)
+bounds-at-requires c κs = search needs
 
 within-requires : tie.Need-within-requires
 within-requires c κs = search needs
@@ -21,7 +21,7 @@ returns c =
     let low : Word (b .lower) = search needs in
     let high : Word (b .upper) = search needs in
     let x = start .fits .x .sfits in
-    leaf-one _ _ _ _ _ _ _ x (start .pre .1) (read .bounds-at .ensures) (c .within .ensures ∙ rw (again-same (b .lower) low, again-same (b .upper) high, again-same _ x) refl)
+    leaf-one _ _ _ _ _ _ _ x (start .pre) (read .bounds-at .ensures) (c .within .ensures ∙ rw (again-same (b .lower) low, again-same (b .upper) high, again-same _ x) refl)
 
 pub leaf-hit-spec : {M : Type 1} → statement M
 leaf-hit-spec = tie.close (tie.spec bounds-at-requires within-requires returns)

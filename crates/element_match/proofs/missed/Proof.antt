@@ -15,10 +15,10 @@ use Rattle.element_match.proofs.missed.Statement.{statement}
 use Rattle.element_match.proofs.missed.Tie as tie
 
 abbrev Inv-loop : tie.InvT-loop
-Inv-loop list asked lower upper rest₀ left₀ rest left = Testing list asked (toZ w32 lower) (toZ w32 upper) left rest
+Inv-loop xs asked lower upper rest₀ left₀ rest left = Testing xs asked (toZ w32 lower) (toZ w32 upper) left rest
 
 abbrev μ-loop : tie.MeasureT-loop
-μ-loop list asked lower upper rest₀ left₀ rest left = count (bit left) 32
+μ-loop xs asked lower upper rest₀ left₀ rest left = count (bit left) 32
 
 loop-holds : tie.Need-loop-holds Inv-loop μ-loop
 loop-holds c = testing-start _ _ _ _
@@ -30,10 +30,10 @@ without-lowest-requires : tie.Need-without-lowest-requires Inv-loop μ-loop
 without-lowest-requires c κs = omega (arith, c .before .loop-test .taken)
 
 -- the element of this turn stands in the list
-here : (c : tie.After-without-lowest Inv-loop μ-loop) → c .before .lowest .result < length (c .before .before .before .before .args .list .now)
+here : (c : tie.After-without-lowest Inv-loop μ-loop) → c .before .lowest .result < length (c .before .before .before .before .args .integers .now)
 here c =
     let turn = c .before .before .before in
-    turn .before .pre .inside (c .before .lowest .result) (turn .loop .inv .from (c .before .lowest .result) (c .before .lowest .ensures .inside))
+    turn .before .pre .inside (c .before .lowest .result) (turn .loop .inv .sifting .from (c .before .lowest .result) (c .before .lowest .ensures .inside))
 
 falls : (c : tie.After-without-lowest Inv-loop μ-loop) → count (bit (c .without-lowest .result)) 32 < count (bit (c .before .before .before .loop .left)) 32
 falls c = left-falls (c .before .lowest .result) (c .without-lowest .ensures _ _ (c .before .lowest .ensures)) (c .before .lowest .ensures .inside) (c .before .lowest .ensures .low) (λ j h. h)
@@ -55,11 +55,11 @@ flip-requires c κs = c .before .before .before .before .lowest .ensures .low
 
 -- what the test said of it
 tested : (c : tie.After-within Inv-loop μ-loop) → let t = c .before .before in let a = t .before .before .before .before .args in
-    inside (a .list .now) (toZ w32 (ofZ w32 (a .lower))) (toZ w32 (ofZ w32 (a .upper))) (t .before .lowest .result) ≡ c .within .result
+    inside (a .integers .now) (toZ w32 (ofZ w32 (a .lower))) (toZ w32 (ofZ w32 (a .upper))) (t .before .lowest .result) ≡ c .within .result
 tested c =
     let t = c .before .before in
     let a = t .before .before .before .before .args in
-    test-told (a .list .now) (toZ w32 (ofZ w32 (a .lower))) (toZ w32 (ofZ w32 (a .upper))) (t .before .lowest .result) _ _ (c .before .x .given) refl (c .within .ensures)
+    test-told (a .integers .now) (toZ w32 (ofZ w32 (a .lower))) (toZ w32 (ofZ w32 (a .upper))) (t .before .lowest .result) _ _ (c .before .x .given) refl (c .within .ensures)
 
 loop-less : tie.Need-loop-less Inv-loop μ-loop
 loop-less c = falls (c .before .before .before .before)

@@ -17,7 +17,7 @@ refusal-requires c κs = search needs
 returns : tie.Need-returns
 returns c =
     let a = c .before .before .before .before .args in
-    λ b k. group-fault b (a .t .now) (a .at) (c .before .before .count-fault .result) (c .before .before .count-fault .ensures) _ (c .refusal .ensures) (c .before .if1 .taken) (search needs)
+    λ fam b k. group-fault b (a .t .now) (a .at) (c .before .before .count-fault .result) (c .before .before .count-fault .ensures) _ (c .refusal .ensures) (c .before .if1 .taken) (search needs)
 
 add-result : tie.Need-add-result
 add-result c = search needs
@@ -25,7 +25,7 @@ add-result c = search needs
 returns-2 : tie.Need-returns-2
 returns-2 c =
     let a = c .before .before .before .args in
-    λ b k. group-right b (a .t .now) (a .at) (c .before .count-fault .result) (c .before .count-fault .ensures) (c .if1 .left) k
+    λ fam b k. group-right b (a .t .now) (a .at) (c .before .count-fault .result) (c .before .count-fault .ensures) (c .if1 .left) k
 
 pub group-head-end-spec : {M : Type 1} → statement M
 group-head-end-spec =

@@ -1,69 +1,53 @@
--- `elements::head_end` meets its contract: the kind says which record it is. Assumes nothing.
-use mathlib.Core.Path.{sym, _∙_}
-use mathlib.Core.Bool.{true, false}
-use mathlib.Core.Logic.{⊎-elim}
-use Prim.Native.Nat.{_<_}
-use native.Mathlib.Omega.{arith}
-use lib.ListN.{length}
-use Rattle.grammar.specs.Leaf.{leafHead}
-use Rattle.elements.proofs.Records.{fault-said, head-none, head-list, head-complement, head-leaf, group-kinds, leaf-kinds, head-as}
+-- `elements::head_end` meets its contract: each arm knows the family, and the reader of leaves computes there. Assumes nothing.
+use mathlib.Core.Path.{_≡_, sym, subst}
+use mathlib.Core.List.{List}
+use Prim.Native.Nat.{ℕ}
+use lib.ListN.{drop}
+use Rattle.format.specs.declared.Family.{Family}
+use Rattle.grammar.specs.Family.{LeafOf, leavesOf}
+use Rattle.grammar.specs.Record.{head}
+use Rattle.elements.specs.Contract.{HeadAt}
 use borrow.Author.Needs.{needs}
 use Rattle.elements.proofs.head_end.Statement.{statement}
 use Rattle.elements.proofs.head_end.Tie as tie
 use Rattle.elements.proofs.head_end.Reads as reads
 use Rattle.elements.proofs.head_end.Lts as lts
-use Rattle.elements.proofs.group_head_end.Reads as group-head-end-reads
-use Rattle.elements.proofs.is_group.Reads as is-group-reads
-use Rattle.elements.proofs.leaf_end.Reads as leaf-end-reads
-use Rattle.elements.proofs.refusal.Reads as refusal-reads
+use Rattle.elements.proofs.float_record_end.Reads as float-record-end-reads
+use Rattle.elements.proofs.integer_head_end.Reads as integer-head-end-reads
 
-refusal-requires : tie.Need-refusal-requires
-refusal-requires c κs = search needs
+-- what is said of a record of a family
+of-family : (t : List ℕ) (at r : ℕ) (fam fam′ : Family) → fam ≡ fam′ → HeadAt {L = LeafOf fam′} t at (head (leavesOf fam′) (drop at t)) r → HeadAt {L = LeafOf fam} t at (head (leavesOf fam) (drop at t)) r
+of-family t at r fam fam′ e h = subst (λ (g : Family). HeadAt {L = LeafOf g} t at (head (leavesOf g) (drop at t)) r) (sym e) h
+
+enum-told : tie.Need-enum-told
+enum-told c = search needs
+
+integer-head-end-requires : tie.Need-integer-head-end-requires
+integer-head-end-requires c κs = search needs
+
+enum-told-2 : tie.Need-enum-told-2
+enum-told-2 c = search needs
+
+float-record-end-requires : tie.Need-float-record-end-requires
+float-record-end-requires c κs = search needs
 
 returns : tie.Need-returns
 returns c =
-    let a = c .before .before .before .args in
-    fault-said _ _ _ 3 _ (c .refusal .ensures) (head-none leafHead (a .t .now) (a .at) (omega (arith, c .before .if1 .taken))) (omega arith) (omega arith)
-
-shared-slice-read-is-group : tie.Need-shared-slice-read-is-group
-shared-slice-read-is-group c = search needs
-
-is-group-requires : tie.Need-is-group-requires
-is-group-requires c κs = search needs
-
-group-head-end-requires : tie.Need-group-head-end-requires
-group-head-end-requires c κs = search needs
+    let a = c .before .before .before .before .args in
+    of-family (a .t .now) (a .at) _ (a .sort .family) Family.Integers (c .before .enum-told .given .1) (c .integer-head-end .ensures)
 
 returns-2 : tie.Need-returns-2
 returns-2 c =
-    let start = c .before .before .before .before .before .before in
-    let a = start .args in
-    let some : a .at < length (a .t .now) = omega (arith, c .before .before .before .before .if1 .left, start .pre) in
-    let kind = sym (c .before .before .is-group .ensures) ∙ c .before .if2 .taken in
-    ⊎-elim
-    (λ k. head-as _ _ _ _ _ (head-list leafHead (a .t .now) (a .at) some k) (c .group-head-end .ensures false kind))
-    (λ k. head-as _ _ _ _ _ (head-complement leafHead (a .t .now) (a .at) some k) (c .group-head-end .ensures true kind))
-    (group-kinds _ kind)
-
-leaf-end-requires : tie.Need-leaf-end-requires
-leaf-end-requires c κs = search needs
-
-returns-3 : tie.Need-returns-3
-returns-3 c =
-    let start = c .before .before .before .before .before .before in
-    let a = start .args in
-    let n = leaf-kinds _ (sym (c .before .before .is-group .ensures) ∙ c .before .if2 .left) in
-    head-as _ _ _ _ _ (head-leaf leafHead (a .t .now) (a .at) (omega (arith, c .before .before .before .before .if1 .left, start .pre)) (n .0) (n .1)) (c .leaf-end .ensures)
+    let a = c .before .before .before .before .args in
+    of-family (a .t .now) (a .at) _ (a .sort .family) Family.Floats (c .before .enum-told2 .given .1) (c .float-record-end .ensures)
 
 pub head-end-spec : {M : Type 1} → statement M
 head-end-spec =
     tie.close
     (tie.spec
-    refusal-requires
+    enum-told
+    integer-head-end-requires
+    enum-told-2
+    float-record-end-requires
     returns
-    shared-slice-read-is-group
-    is-group-requires
-    group-head-end-requires
-    returns-2
-    leaf-end-requires
-    returns-3)
+    returns-2)

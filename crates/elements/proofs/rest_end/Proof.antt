@@ -2,7 +2,7 @@
 use mathlib.Core.Path.{sym, _∙_}
 use native.Mathlib.Omega.{arith}
 use borrow.Author.Tests.{not-true, not-false}
-use Rattle.grammar.specs.Leaf.{leafHead}
+use Rattle.grammar.specs.Family.{leavesOf}
 use Rattle.elements.proofs.Scans.{head-some, group-fits, leaf-ended, group-stopped, group-ended}
 use Prim.Native.Nat.{_+_}
 use borrow.Author.Needs.{needs}
@@ -16,15 +16,17 @@ use Rattle.elements.proofs.scan_all.Reads as scan-all-reads
 shared-slice-read-is-group : tie.Need-shared-slice-read-is-group
 shared-slice-read-is-group c =
     let p = c .before .before .pre in
-    head-some leafHead _ _ _ (p .0 .1) (p .1) (p .2)
+    head-some (leavesOf (c .before .before .args .sort .family)) _ _ _ (p .0 .1) (p .1) (p .2)
 
 is-group-requires : tie.Need-is-group-requires
 is-group-requires c κs = search needs
 
 returns : tie.Need-returns
 returns c =
-    let p = c .before .before .before .before .pre in
-    leaf-ended _ _ _ (p .0 .1) (p .2) (p .1) (sym (c .before .is-group .ensures) ∙ not-true _ (c .if1 .taken))
+    let start = c .before .before .before .before in
+    let a = start .args in
+    let p = start .pre in
+    leaf-ended (a .sort .family) (a .t .now) (a .at) _ (p .0 .1) (p .2) (p .1) (sym (c .before .is-group .ensures) ∙ not-true _ (c .if1 .taken))
 
 add-scan-all : tie.Need-add-scan-all
 add-scan-all c = search needs
@@ -50,14 +52,18 @@ scan-all-requires c κs =
 returns-2 : tie.Need-returns-2
 returns-2 c =
     let read = c .before .before .before .before in
-    let p = read .before .before .before .pre in
-    group-stopped _ _ _ (p .0 .1) (p .2) _ (c .before .scan-all .ensures) (p .1) (sym (read .is-group .ensures) ∙ not-false _ (c .before .before .before .if1 .left)) (c .if2 .taken)
+    let start = read .before .before .before in
+    let a = start .args in
+    let p = start .pre in
+    group-stopped (a .sort .family) (a .t .now) (a .at) _ (p .0 .1) (p .2) _ (c .before .scan-all .ensures) (p .1) (sym (read .is-group .ensures) ∙ not-false _ (c .before .before .before .if1 .left)) (c .if2 .taken)
 
 returns-3 : tie.Need-returns-3
 returns-3 c =
     let read = c .before .before .before .before in
-    let p = read .before .before .before .pre in
-    group-ended _ _ _ (p .0 .1) (p .2) _ (c .before .scan-all .ensures) (p .1) (sym (read .is-group .ensures) ∙ not-false _ (c .before .before .before .if1 .left)) (c .if2 .left)
+    let start = read .before .before .before in
+    let a = start .args in
+    let p = start .pre in
+    group-ended (a .sort .family) (a .t .now) (a .at) _ (p .0 .1) (p .2) _ (c .before .scan-all .ensures) (p .1) (sym (read .is-group .ensures) ∙ not-false _ (c .before .before .before .if1 .left)) (c .if2 .left)
 
 pub rest-end-spec : {M : Type 1} → statement M
 rest-end-spec =

@@ -1,79 +1,85 @@
 -- `matcher::judge_planned` meets its contract: each test of the code is the next row of `judgeAnswer`. Assumes nothing.
-use mathlib.Core.Path.{_≡_, sym, ap, _∙_}
+use mathlib.Core.Path.{_≡_, refl, sym, ap, _∙_}
 use mathlib.Core.Bool.{Bool, cond}
+use mathlib.Core.List.{List}
+use Prim.Native.Nat.{ℕ, _+_}
 use native.Mathlib.Omega.{arith}
 use borrow.Author.Needs.{needs}
 use borrow.Author.Tests.{not-true, not-false}
 use lib.ListN.{length}
-use Rattle.matching.specs.Answer.{judgeAnswer}
+use Rattle.format.specs.declared.Family.{Family}
+use Rattle.grammar.specs.Family.{ElementOf, listOf, Lent}
+use Rattle.plans.specs.Plans.{PlanOf}
+use Rattle.matching.specs.Answer.{Taken, judgeAnswer}
 use Rattle.matching.proofs.Answers.{judge-two, judge-eleven, judge-thirteen}
-use Rattle.matcher.proofs.ByPlan.{Ready, planned-ready, ready-members, ready-inside}
+use Rattle.matcher.proofs.ByPlan.{Ready, planned-ready, ready-inside}
+use Rattle.matcher.proofs.LentLists.{size-of, list-short, list-large, list-other, met-by, served}
 use Rattle.matcher.proofs.PlannedAnswers.{judge-refused, judge-unmet}
 use Rattle.matcher.proofs.JudgedPairs.{judge-wrong, judge-right}
 use Rattle.matcher.proofs.judge_planned.Statement.{statement}
 use Rattle.matcher.proofs.judge_planned.Tie as tie
-use Rattle.matcher.proofs.judge_planned.Reads as reads
-use Rattle.matcher.proofs.judge_planned.Lts as lts
-use Rattle.matcher.proofs.length_met.Reads as length-met-reads
+
+-- what was lent
+module _ (s : tie.Start) where
+  abbrev xs : (fam : Family) → List (ElementOf fam)
+  xs fam = listOf fam (s .args .integers .now) (s .args .floats .now)
+
+  abbrev sum : ℕ
+  sum = length (s .args .integers .now) + length (s .args .floats .now)
+
+  abbrev Listed : Family → Type 0
+  Listed fam = Lent fam (s .args .integers .now) (s .args .floats .now)
 
 returns : tie.Need-returns
-returns c =
-    let a = c .before .before .before .args in
-    sym (judge-two (a .template .now) (a .list .now) (a .witness .now) (c .if1 .taken))
+returns c fam plan lent = let start = c .before .before .before .before in sym (judge-two fam _ (xs start fam) _ (c .if1 .taken))
+
+add-size : tie.Need-add-size
+add-size c = search needs
 
 returns-2 : tie.Need-returns-2
-returns-2 c =
-    let a = c .before .before .before .before .args in
-    sym (judge-eleven (a .template .now) (a .list .now) (a .witness .now) (c .before .if1 .left) (c .if2 .taken))
+returns-2 c fam plan lent = let start = c .before .before .before .before .before in sym (judge-eleven fam _ (xs start fam) _ (c .before .if1 .left) (list-large fam _ _ lent 32 (c .if2 .taken)))
+
+-- no row of the table before the scan holds
+taken : (c : tie.Else2) → let start = c .before .before .before .before .before in (fam : Family) → Listed start fam → Taken (start .args .template .now) (xs start fam)
+taken c fam lent = (c .before .if1 .left, list-short fam _ _ lent 32 (c .if2 .left))
 
 returns-3 : tie.Need-returns-3
-returns-3 c =
-    let a = c .before .before .before .before .before .args in
-    sym (judge-thirteen (a .template .now) (a .list .now) (a .witness .now) (c .before .before .if1 .left, c .before .if2 .left) (c .if3 .taken))
+returns-3 c fam plan lent =
+    let start = c .before .before .before .before .before .before in
+    sym (judge-thirteen fam _ (xs start fam) _ (taken (c .before) fam lent) (list-other fam _ _ lent _ (c .if3 .taken)))
+
+same-size : (c : tie.Else3) → let start = c .before .before .before .before .before .before in (fam : Family) → Listed start fam → length (start .args .witness .now) ≡ length (xs start fam)
+same-size c fam lent = c .if3 .left ∙ sym (size-of fam _ _ lent)
 
 returns-4 : tie.Need-returns-4
-returns-4 c =
-    let long = c .before in
-    let short = long .before in
-    let small = short .before in
-    let start = small .before .before .before in
-    let a = start .args in
-    judge-refused (a .template .now) (a .list .now) (small .if1 .left, short .if2 .left) (a .t2) (start .pre) (a .witness .now) (long .if3 .left) (c .if4 .taken)
+returns-4 c fam plan lent = let long = c .before in judge-refused fam _ _ (taken (long .before) fam lent) _ plan _ (same-size long fam lent) (c .if4 .taken)
 
 length-met-requires : tie.Need-length-met-requires
 length-met-requires c κs = search needs
 
 returns-5 : tie.Need-returns-5
-returns-5 c =
+returns-5 c fam plan lent =
     let zero = c .before .before in
     let long = zero .before in
-    let short = long .before in
-    let small = short .before in
-    let start = small .before .before .before in
-    let a = start .args in
-    judge-unmet (a .template .now) (a .list .now) (small .if1 .left, short .if2 .left) (a .t2) (start .pre) (zero .if4 .left) _ (c .before .length-met .ensures) (a .witness .now) (long .if3 .left) (not-true _ (c .if5 .taken))
+    judge-unmet fam _ _ (taken (long .before) fam lent) _ plan (zero .if4 .left) _ (met-by fam _ _ lent _ _ _ (c .before .length-met .ensures)) _ (same-size long fam lent) (not-true _ (c .if5 .taken))
 
 -- the plan of an accepted template, and a list that is short enough
-ready : (c : tie.Else4) → let start = c .before .before .before .before .before .before in Ready (start .args .template .now) (start .args .t2) (length (start .args .list .now))
-ready c = planned-ready _ _ _ (c .before .before .before .before .before .before .pre) (c .if4 .left) (c .before .before .if2 .left)
+ready : (c : tie.Else4) → let start = c .before .before .before .before .before .before .before in Ready (start .pre .family) (start .args .template .now) (start .args .t2) (sum start)
+ready c = let start = c .before .before .before .before .before .before .before in planned-ready _ _ _ _ (start .pre .plan) (c .if4 .left) (c .before .before .if2 .left)
 
 left-over-requires : tie.Need-left-over-requires
 left-over-requires c κs =
     let zero = c .before .before .before .before in
-    let r = ready zero in
-    (ready-members r, r .short, zero .before .if3 .left)
+    let start = zero .before .before .before .before .before .before .before in
+    (served _ _ _ _ _ _ (ready zero) refl (start .pre .lent), zero .before .if3 .left)
 
 returns-6 : tie.Need-returns-6
-returns-6 c =
+returns-6 c fam plan lent =
     let paired = c .before in
     let met = paired .before .before .before in
     let zero = met .before .before in
     let long = zero .before in
-    let short = long .before in
-    let small = short .before in
-    let start = small .before .before .before in
-    let a = start .args in
-    judge-wrong (a .template .now) (a .list .now) (small .if1 .left, short .if2 .left) (a .t2) (start .pre) (zero .if4 .left) _ (met .before .length-met .ensures) (not-false _ (met .if5 .left)) (a .witness .now) (long .if3 .left) _ (paired .left-over .ensures) (c .if6 .taken)
+    judge-wrong fam _ _ (taken (long .before) fam lent) _ plan (zero .if4 .left) _ (met-by fam _ _ lent _ _ _ (met .before .length-met .ensures)) (not-false _ (met .if5 .left)) _ (same-size long fam lent) _ (paired .left-over .ensures fam lent) (c .if6 .taken)
 
 body-met-requires : tie.Need-body-met-requires
 body-met-requires c κs =
@@ -82,31 +88,28 @@ body-met-requires c κs =
     (r .planned .fewBlocks, omega (arith, zero .before .if3 .left, r .short), ready-inside r)
 
 -- what the test of the witness says is the answer
-says : (c : tie.After-body-met) → let a = c .before .before .before .before .before .before .before .before .before .before .before .before .before .before .before .args in
-    cond (c .body-met .result) 0 1 ≡ judgeAnswer (a .template .now) (a .list .now) (a .witness .now)
-says c =
+says : (c : tie.After-body-met) → let start = c .before .before .before .before .before .before .before .before .before .before .before .before .before .before .before .before in
+    (fam : Family) → PlanOf fam (start .args .template .now) (start .args .t2) → Listed start fam → cond (c .body-met .result) 0 1 ≡ judgeAnswer fam (start .args .template .now) (xs start fam) (start .args .witness .now)
+says c fam plan lent =
     let right = c .before .before .before in
     let paired = right .before in
     let met = paired .before .before .before in
     let zero = met .before .before in
     let long = zero .before in
-    let short = long .before in
-    let small = short .before in
-    let start = small .before .before .before in
-    let a = start .args in
-    judge-right (a .template .now) (a .list .now) (small .if1 .left, short .if2 .left) (a .t2) (start .pre) (zero .if4 .left) _ (met .before .length-met .ensures) (not-false _ (met .if5 .left)) (a .witness .now) (long .if3 .left) _ (paired .left-over .ensures) (right .if6 .left) _ (c .body-met .ensures)
+    judge-right fam _ _ (taken (long .before) fam lent) _ plan (zero .if4 .left) _ (met-by fam _ _ lent _ _ _ (met .before .length-met .ensures)) (not-false _ (met .if5 .left)) _ (same-size long fam lent) _ (paired .left-over .ensures fam lent) (right .if6 .left) _ (c .body-met .ensures fam)
 
 returns-7 : tie.Need-returns-7
-returns-7 c = sym (ap (λ (b : Bool). cond b 0 1) (c .if7 .taken)) ∙ says (c .before)
+returns-7 c fam plan lent = sym (ap (λ (b : Bool). cond b 0 1) (c .if7 .taken)) ∙ says (c .before) fam plan lent
 
 returns-8 : tie.Need-returns-8
-returns-8 c = sym (ap (λ (b : Bool). cond b 0 1) (c .if7 .left)) ∙ says (c .before)
+returns-8 c fam plan lent = sym (ap (λ (b : Bool). cond b 0 1) (c .if7 .left)) ∙ says (c .before) fam plan lent
 
 pub judge-planned-spec : {M : Type 1} → statement M
 judge-planned-spec =
     tie.close
     (tie.spec
     returns
+    add-size
     returns-2
     returns-3
     returns-4

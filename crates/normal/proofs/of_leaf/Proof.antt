@@ -7,7 +7,7 @@ use borrow.Author.Needs.{needs}
 use Rattle.integers.specs.Integer.{Word}
 use Rattle.integers.proofs.SignedLocals.{again, again-same}
 use Rattle.ranges.specs.Spans.{span, holds, Ascending}
-use Rattle.elements.specs.Leaves.{LeafHere}
+use Rattle.leaves.specs.Leaves.{LeafHere}
 use Rattle.normal.specs.Contract.{weight, HereSet}
 use Rattle.normal.proofs.Walks.{leaf-there, leaf-here-set}
 use Rattle.normal.proofs.Answers.{whole-here, whole-set, answer-form}

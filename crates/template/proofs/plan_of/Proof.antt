@@ -4,7 +4,7 @@ use mathlib.Core.Logic.{⊎-elim}
 use Prim.Native.Nat.{ℕ, _+_}
 use native.Mathlib.Omega.{arith}
 use borrow.Author.Tests.{lt-ltb, eq-eqb, ne-eqb}
-use Rattle.grammar.specs.Leaf.{leafHead}
+use Rattle.grammar.specs.Family.{leavesOf}
 use Rattle.grammar.specs.Whole.{templateHere, readTemplate}
 use Rattle.elements.proofs.WholeInputs.{too-long, read-refused}
 use Rattle.plans.specs.Plans.{refusedPlan}
@@ -28,8 +28,10 @@ counted-one : (kind n : ℕ) → (kind ≡ 0x10 → ⊥) → blockCount kind n �
 counted-one kind n e = rw (ne-eqb kind 0x10 e)
 
 -- what is known where the items are read
-front : (c : tie.Else3) → Front (c .before .before .before .before .before .before .args .t .now) (c .before .before .before .heads-of .result)
-front c = front-of _ _ _ (c .before .before .before .heads-of .ensures) (c .before .before .if2 .left) (c .before .body-fault .ensures) (c .if3 .left)
+front : (c : tie.Else3) → Front (c .before .before .before .before .before .before .args .sort .family) (c .before .before .before .before .before .before .args .t .now) (c .before .before .before .heads-of .result)
+front c =
+    let fam = c .before .before .before .before .before .before .args .sort .family in
+    front-of fam _ _ _ (c .before .before .before .heads-of .ensures fam) (c .before .before .if2 .left) (c .before .body-fault .ensures fam) (c .if3 .left)
 
 no-plan-requires : tie.Need-no-plan-requires
 no-plan-requires c κs = search needs
@@ -37,7 +39,9 @@ no-plan-requires c κs = search needs
 returns : tie.Need-returns
 unfolding readTemplate
 returns c =
-    let t = c .before .before .before .args .t .now in
+    let a = c .before .before .before .args in
+    let fam = a .sort .family in
+    let t = a .t .now in
     refusedPlan 2 (rw (lt-ltb 4096 _ (c .before .if1 .taken))) (omega arith) (c .no-plan .ensures)
 
 heads-of-requires : tie.Need-heads-of-requires
@@ -50,11 +54,15 @@ returns-2 : tie.Need-returns-2
 unfolding readTemplate
 returns-2 c =
     let told = c .before .before in
-    let t = c .before .before .before .before .before .args .t .now in
-    refusedPlan _ (read-refused t (templateHere leafHead t) (c .before .before .before .if1 .left) _ (heads-refused t _ (told .heads-of .ensures) (c .before .if2 .taken))) (omega (arith, c .before .if2 .taken)) (c .no-plan2 .ensures)
+    let a = c .before .before .before .before .before .args in
+    let fam = a .sort .family in
+    let t = a .t .now in
+    refusedPlan _ (read-refused t (templateHere (leavesOf fam) t) (c .before .before .before .if1 .left) _ (heads-refused fam t _ (told .heads-of .ensures fam) (c .before .if2 .taken))) (omega (arith, c .before .if2 .taken)) (c .no-plan2 .ensures)
 
 body-fault-requires : tie.Need-body-fault-requires
-body-fault-requires c κs = heads-inside _ _ (c .before .heads-of .ensures) (c .if2 .left)
+body-fault-requires c κs =
+    let fam = c .before .before .before .before .args .sort .family in
+    heads-inside fam _ _ (c .before .heads-of .ensures fam) (c .if2 .left)
 
 no-plan-requires-3 : tie.Need-no-plan-requires-3
 no-plan-requires-3 c κs = search needs
@@ -63,8 +71,10 @@ returns-3 : tie.Need-returns-3
 unfolding readTemplate
 returns-3 c =
     let told = c .before .before .before .before in
-    let t = c .before .before .before .before .before .before .before .args .t .now in
-    refusedPlan _ (read-refused t (templateHere leafHead t) (c .before .before .before .before .before .if1 .left) _ (body-refused t _ _ (told .heads-of .ensures) (c .before .before .before .if2 .left) (c .before .before .body-fault .ensures) (c .before .if3 .taken))) (omega (arith, c .before .if3 .taken)) (c .no-plan3 .ensures)
+    let a = c .before .before .before .before .before .before .before .args in
+    let fam = a .sort .family in
+    let t = a .t .now in
+    refusedPlan _ (read-refused t (templateHere (leavesOf fam) t) (c .before .before .before .before .before .if1 .left) _ (body-refused fam t _ _ (told .heads-of .ensures fam) (c .before .before .before .if2 .left) (c .before .before .body-fault .ensures fam) (c .before .if3 .taken))) (omega (arith, c .before .if3 .taken)) (c .no-plan3 .ensures)
 
 shared-slice-read-kind : tie.Need-shared-slice-read-kind
 shared-slice-read-kind c = let f = front (c .before) in omega (arith, f .fits)
@@ -91,34 +101,37 @@ sub-no-plan c = search needs
 
 cast-no-plan : tie.Need-cast-no-plan
 cast-no-plan c =
+    let a = c .before .before .before .before .before .before .before .before .before .before .before .before .args in
     let f = front (c .before .before .before .before .before .before) in
-    omega (arith, contents-small _ _ _ _ _ _ _ _ (f .reads) (c .before .contents-end .ensures) (c .before .before .before .before .before .before .before .before .before .before .if1 .left))
+    omega (arith, contents-small (a .sort .family) (a .t .now) _ _ _ _ _ _ _ (f .reads) (c .before .contents-end .ensures) (c .before .before .before .before .before .before .before .before .before .before .if1 .left))
 
 no-plan-requires-4 : tie.Need-no-plan-requires-4
 no-plan-requires-4 c κs = search needs
 
 returns-4 : tie.Need-returns-4
 returns-4 c =
+    let a = c .before .before .before .before .before .before .before .before .before .before .before .before .before .args in
     let read = c .before .before in
     let f = front (c .before .before .before .before .before .before .before) in
-    refusedPlan _ (contents-refused _ _ _ _ _ _ _ _ (f .reads) (read .contents-end .ensures) (c .before .before .before .before .before .before .before .before .before .before .before .if1 .left) (c .before .if4 .taken)) (omega (arith, c .before .if4 .taken)) (c .no-plan4 .ensures)
+    refusedPlan _ (contents-refused (a .sort .family) (a .t .now) _ _ _ _ _ _ _ (f .reads) (read .contents-end .ensures) (c .before .before .before .before .before .before .before .before .before .before .before .if1 .left) (c .before .if4 .taken)) (omega (arith, c .before .if4 .taken)) (c .no-plan4 .ensures)
 
 no-plan-requires-5 : tie.Need-no-plan-requires-5
 no-plan-requires-5 c κs = search needs
 
 returns-5 : tie.Need-returns-5
 returns-5 c =
+    let a = c .before .before .before .before .before .before .before .before .before .before .before .before .before .before .args in
     let read = c .before .before .before in
     let f = front (c .before .before .before .before .before .before .before .before) in
-    refusedPlan 10 (contents-left-over _ _ _ _ _ _ _ _ (f .reads) (read .contents-end .ensures) (c .before .before .before .before .before .before .before .before .before .before .before .before .if1 .left) (c .before .before .if4 .left) (c .before .if5 .taken)) (omega arith) (c .no-plan5 .ensures)
+    refusedPlan 10 (contents-left-over (a .sort .family) (a .t .now) _ _ _ _ _ _ _ (f .reads) (read .contents-end .ensures) (c .before .before .before .before .before .before .before .before .before .before .before .before .if1 .left) (c .before .before .if4 .left) (c .before .if5 .taken)) (omega arith) (c .no-plan5 .ensures)
 
 returns-6 : tie.Need-returns-6
 returns-6 c =
+    let a = c .before .before .before .before .before .before .before .before .before .before .before .before .before .before .args in
     let read = c .before .before .before in
     let f = front (c .before .before .before .before .before .before .before .before) in
-    let n = c .before .before .before .before .before .before .before .before .before .before .before .before .before .before .args .t .now in
     let count = ⊎-elim (λ w. w .1 ∙ sym (counted-record _ _ (w .0 .taken))) (λ w. w .1 ∙ sym (counted-one _ _ (w .0 .left))) (c .if6 .came) in
-    contents-planned _ _ _ _ _ _ _ _ (f .reads) (read .contents-end .ensures) (c .before .before .before .before .before .before .before .before .before .before .before .before .if1 .left) (c .before .before .if4 .left) (c .before .if5 .left) (f .few) _ _ _ (f .bounds .lower) (f .bounds .upper) count
+    contents-planned (a .sort .family) (a .t .now) _ _ _ _ _ _ _ (f .reads) (read .contents-end .ensures) (c .before .before .before .before .before .before .before .before .before .before .before .before .if1 .left) (c .before .before .if4 .left) (c .before .if5 .left) (f .few) _ _ _ (f .bounds .lower) (f .bounds .upper) count
 
 pub plan-of-spec : {M : Type 1} → statement M
 plan-of-spec =

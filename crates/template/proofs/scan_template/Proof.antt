@@ -4,7 +4,8 @@ use mathlib.Core.List.{List}
 use Prim.Native.Nat.{ℕ, _<_}
 use native.Mathlib.Omega.{arith}
 use Rattle.grammar.specs.Template.{template}
-use Rattle.grammar.specs.Leaf.{leafHead}
+use Rattle.format.specs.declared.Family.{Family}
+use Rattle.grammar.specs.Family.{leavesOf}
 use Rattle.grammar.specs.Read.{refuse}
 use Rattle.grammar.specs.Whole.{readTemplate}
 use Rattle.elements.specs.Contract.{Answered, rejected, accepted}
@@ -17,15 +18,15 @@ use Rattle.template.proofs.scan_template.Reads as reads
 use Rattle.template.proofs.scan_template.Lts as lts
 use Rattle.template.proofs.plan_of.Reads as plan-of-reads
 
-plan-answered : (t : List ℕ) (p : Plan) → PlanOf t p → Answered (readTemplate leafHead t) (p .number)
-plan-answered t p (refusedPlan number q l e) = let same : p .number ≡ number = ap (λ (x : Plan). x .number) e in rejected (q ∙ ap refuse (sym same)) (omega arith)
-plan-answered t p (aPlan a b q z w) = accepted (template a b) q z
+plan-answered : (fam : Family) (t : List ℕ) (p : Plan) → PlanOf fam t p → Answered (readTemplate (leavesOf fam) t) (p .number)
+plan-answered fam t p (refusedPlan number q l e) = let same : p .number ≡ number = ap (λ (x : Plan). x .number) e in rejected (q ∙ ap refuse (sym same)) (omega arith)
+plan-answered fam t p (aPlan a b q z w) = accepted (template a b) q z
 
 plan-of-requires : tie.Need-plan-of-requires
 plan-of-requires c κs = search needs
 
 returns : tie.Need-returns
-returns c = plan-answered _ _ (c .plan-of .ensures)
+returns c = plan-answered _ _ _ (c .plan-of .ensures)
 
 pub scan-template-spec : {M : Type 1} → statement M
 scan-template-spec = tie.close (tie.spec plan-of-requires returns)

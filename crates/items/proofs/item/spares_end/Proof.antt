@@ -17,7 +17,7 @@ star-end-requires c κs = search needs
 
 returns : tie.Need-returns
 returns c =
-    λ places. map-noted asSpares (λ st q v. v) (stopped-on (c .before .star-end .ensures) (omega (arith, c .if1 .taken)))
+    λ fam places. map-noted asSpares (λ st q v. v) (stopped-on (c .before .star-end .ensures) (omega (arith, c .if1 .taken)))
 
 cast-t8 : tie.Need-cast-t8
 cast-t8 c = search needs
@@ -44,7 +44,7 @@ number-of-requires c κs = search needs
 
 returns-2 : tie.Need-returns-2
 returns-2 c =
-    λ places. map-noted asSpares (λ st q v. spares-item _ _ _ _ _ places st v (c .number-of .ensures)) (c .before .before .before .before .star-end .ensures)
+    λ fam places. map-noted asSpares (λ st q v. spares-item fam _ _ _ _ _ places st v (c .number-of .ensures)) (c .before .before .before .before .star-end .ensures)
 
 pub spares-end-spec : {M : Type 1} → statement M
 spares-end-spec =

@@ -26,7 +26,7 @@ use Rattle.normal.proofs.walk.+any_of+set_of.Lts-any_of as any-of-lts
 use Rattle.normal.proofs.walk.set_of.Reads as set-of
 use Rattle.normal.proofs.walk.set_of.Kinds as set-of-kinds
 use Rattle.normal.proofs.walk.+any_of+set_of.Lts-set_of as set-of-lts
-use Rattle.elements.proofs.leaf.bounds_at.Reads as bounds-at-reads
+use Rattle.leaves.proofs.bounds_at.Reads as bounds-at-reads
 use Rattle.normal.proofs.walk.left_out.Reads as left-out-reads
 use Rattle.normal.proofs.walk.+any_of+set_of.{statement}
 use Rattle.normal.proofs.walk.+any_of+set_of.Tie.{close}

@@ -14,16 +14,16 @@ use Rattle.blocks.proofs.block_of.Reads as block-of-reads
 use Rattle.items.proofs.item.item_end.Reads as item-end-reads
 
 abbrev Inv-loop : tie.InvT-loop
-Inv-loop t at n places₀ blocks₀ p₀ m₀ k₀ places blocks p m k = ItemsGoing t at n places₀ places blocks p m k
+Inv-loop t at n sort places₀ blocks₀ p₀ m₀ k₀ places blocks p m k = ItemsGoing (sort .family) t at n places₀ places blocks p m k
 
 abbrev μ-loop : tie.MeasureT-loop
-μ-loop t at n places₀ blocks₀ p₀ m₀ k₀ places blocks p m k = n - k
+μ-loop t at n sort places₀ blocks₀ p₀ m₀ k₀ places blocks p m k = n - k
 
 loop-holds : tie.Need-loop-holds Inv-loop μ-loop
 loop-holds c =
     let w = c .before .pre in
     let a = c .before .args in
-    items-start (a .t .now) (a .at) (a .n) _ _ (w .0 .1) (w .0 .0) (w .2) (w .3)
+    items-start (a .sort .family) (a .t .now) (a .at) (a .n) _ _ (w .0 .1) (w .0 .0) (w .2) (w .3)
 
 item-end-requires : tie.Need-item-end-requires Inv-loop μ-loop
 item-end-requires c κs =

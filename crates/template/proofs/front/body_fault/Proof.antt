@@ -1,7 +1,8 @@
 -- `template::front::body_fault` meets its contract: each test of the code is the next test of `bodyHere`. Assumes nothing.
 use mathlib.Core.Path.{refl, sym, _∙_}
 use native.Mathlib.Omega.{arith}
-use Rattle.grammar.specs.Leaf.{leafHead}
+use Rattle.format.specs.declared.Family.{Family}
+use Rattle.grammar.specs.Family.{leavesOf}
 use Rattle.template.specs.Fronts.{bodyFault, bodyRead}
 use Rattle.template.proofs.WholeTemplates.{few-counted, body-counts, body-none, body-low, body-high, body-count, body-clash, body-right}
 use borrow.Author.Needs.{needs}
@@ -16,7 +17,7 @@ use Rattle.template.proofs.front.length_clashes.Reads as length-clashes
 returns : tie.Need-returns
 returns c =
     let w = c .before .before in
-    bodyFault (body-none leafHead _ (w .args .t .now) (w .args .heads .next) (omega (arith, c .if1 .taken))) (omega arith)
+    λ (fam : Family). bodyFault (body-none (leavesOf fam) _ (w .args .t .now) (w .args .heads .next) (omega (arith, c .if1 .taken))) (omega arith)
 
 shared-slice-read-kind : tie.Need-shared-slice-read-kind
 shared-slice-read-kind c = search needs
@@ -24,12 +25,12 @@ shared-slice-read-kind c = search needs
 returns-2 : tie.Need-returns-2
 returns-2 c =
     let w = c .before .before .before .before in
-    bodyFault (body-low leafHead _ (w .args .t .now) (w .args .heads .next) (omega (arith, c .before .before .if1 .left, w .pre)) (c .if2 .taken)) (omega arith)
+    λ (fam : Family). bodyFault (body-low (leavesOf fam) _ (w .args .t .now) (w .args .heads .next) (omega (arith, c .before .before .if1 .left, w .pre)) (c .if2 .taken)) (omega arith)
 
 returns-3 : tie.Need-returns-3
 returns-3 c =
     let w = c .before .before .before .before .before in
-    bodyFault (body-high leafHead _ (w .args .t .now) (w .args .heads .next) (omega (arith, c .before .before .before .if1 .left, w .pre)) (c .before .if2 .left) (c .if3 .taken)) (omega arith)
+    λ (fam : Family). bodyFault (body-high (leavesOf fam) _ (w .args .t .now) (w .args .heads .next) (omega (arith, c .before .before .before .if1 .left, w .pre)) (c .before .if2 .left) (c .if3 .taken)) (omega arith)
 
 fewest-items-requires : tie.Need-fewest-items-requires
 fewest-items-requires c κs = search needs
@@ -40,7 +41,7 @@ count-fault-requires c κs = search needs
 returns-4 : tie.Need-returns-4
 returns-4 c =
     let w = c .before .before .before .before .before .before .before .before in
-    bodyFault (body-count leafHead _ (w .args .t .now) (w .args .heads .next) (omega (arith, c .before .before .before .before .before .before .if1 .left, w .pre)) (c .before .before .before .before .if2 .left) (c .before .before .before .if3 .left) _ (few-counted (w .args .t .now) (w .args .heads .next) _ _ (c .before .count-fault .ensures) (c .before .before .fewest-items .ensures)) (c .if4 .taken)) (omega (arith, c .if4 .taken))
+    λ (fam : Family). bodyFault (body-count (leavesOf fam) _ (w .args .t .now) (w .args .heads .next) (omega (arith, c .before .before .before .before .before .before .if1 .left, w .pre)) (c .before .before .before .before .if2 .left) (c .before .before .before .if3 .left) _ (few-counted (w .args .t .now) (w .args .heads .next) _ _ (c .before .count-fault .ensures) (c .before .before .fewest-items .ensures)) (c .if4 .taken)) (omega (arith, c .if4 .taken))
 
 add-length-clashes : tie.Need-add-length-clashes
 add-length-clashes c = search needs
@@ -56,13 +57,13 @@ length-clashes-requires c κs = search needs
 returns-5 : tie.Need-returns-5
 returns-5 c =
     let w = c .before .before .before .before .before .before .before .before .before .before .before in
-    bodyFault (body-clash leafHead _ (w .args .t .now) (w .args .heads .next) (omega (arith, c .before .before .before .before .before .before .before .before .before .if1 .left, w .pre)) (c .before .before .before .before .before .before .before .if2 .left) (c .before .before .before .before .before .before .if3 .left) _ (few-counted (w .args .t .now) (w .args .heads .next) _ _ (c .before .before .before .before .count-fault .ensures) (c .before .before .before .before .before .fewest-items .ensures)) (c .before .before .before .if4 .left) (sym (c .before .length-clashes .ensures) ∙ c .if5 .taken)) (omega arith)
+    λ (fam : Family). bodyFault (body-clash (leavesOf fam) _ (w .args .t .now) (w .args .heads .next) (omega (arith, c .before .before .before .before .before .before .before .before .before .if1 .left, w .pre)) (c .before .before .before .before .before .before .before .if2 .left) (c .before .before .before .before .before .before .if3 .left) _ (few-counted (w .args .t .now) (w .args .heads .next) _ _ (c .before .before .before .before .count-fault .ensures) (c .before .before .before .before .before .fewest-items .ensures)) (c .before .before .before .if4 .left) (sym (c .before .length-clashes .ensures) ∙ c .if5 .taken)) (omega arith)
 
 returns-6 : tie.Need-returns-6
 returns-6 c =
     let w = c .before .before .before .before .before .before .before .before .before .before .before in
     let v = body-counts (w .args .t .now) (w .args .heads .next) _ _ (c .before .before .before .before .count-fault .ensures) (c .before .before .before .if4 .left) in
-    bodyRead (body-right leafHead _ (w .args .t .now) (w .args .heads .next) (omega (arith, c .before .before .before .before .before .before .before .before .before .if1 .left, w .pre)) (c .before .before .before .before .before .before .before .if2 .left) (c .before .before .before .before .before .before .if3 .left) _ (few-counted (w .args .t .now) (w .args .heads .next) _ _ (c .before .before .before .before .count-fault .ensures) (c .before .before .before .before .before .fewest-items .ensures)) (c .before .before .before .if4 .left) (sym (c .before .length-clashes .ensures) ∙ c .if5 .left)) refl (v .fits) (c .before .before .before .before .before .before .before .if2 .left) (c .before .before .before .before .before .before .if3 .left) (v .high)
+    λ (fam : Family). bodyRead (body-right (leavesOf fam) _ (w .args .t .now) (w .args .heads .next) (omega (arith, c .before .before .before .before .before .before .before .before .before .if1 .left, w .pre)) (c .before .before .before .before .before .before .before .if2 .left) (c .before .before .before .before .before .before .if3 .left) _ (few-counted (w .args .t .now) (w .args .heads .next) _ _ (c .before .before .before .before .count-fault .ensures) (c .before .before .before .before .before .fewest-items .ensures)) (c .before .before .before .if4 .left) (sym (c .before .length-clashes .ensures) ∙ c .if5 .left)) refl (v .fits) (c .before .before .before .before .before .before .before .if2 .left) (c .before .before .before .before .before .before .if3 .left) (v .high)
 
 pub body-fault-spec : {M : Type 1} → statement M
 body-fault-spec =
