@@ -1,25 +1,31 @@
 // Lets anyone try the matcher, the judge, the normaliser and the reason for no match on bytes.
 //
 // Standard input is a run of requests, and each gets one line. Every u16 has its low byte first.
-//   1, u16 t, t template bytes, u16 n, n integers of four bytes, u16 r: a match. A room of r bytes,
-//     each 165, is lent, and the line is `NUMBER ROOM`.
-//   2, u16 t, t template bytes, u16 n, n integers of four bytes, u16 w, w witness bytes: a judgement.
-//     The line is `NUMBER`.
+//   1, FAMILY, u16 t, t template bytes, u16 n, n elements, u16 r: a match. A room of r bytes, each 165,
+//     is lent, and the line is `NUMBER ROOM`.
+//   2, FAMILY, u16 t, t template bytes, u16 n, n elements, u16 w, w witness bytes: a judgement. The line
+//     is `NUMBER`.
 //   3, u16 t, t template bytes, u16 r: a normal form. The line is `NUMBER LENGTH ROOM`.
-//   7, u16 t, t template bytes, u16 n, n integers of four bytes: why not. The line is `NUMBER GROUP`, the mask in eight
-//     hexadecimal digits, `-` where no group is given.
-// ROOM is the whole room afterwards in hexadecimal, `-` where r is 0. A request over its bounds (t 5,000,
-// n 64, r and w 1,024), another first byte, and a request that ends early get the line `bad`, and the run ends.
+//   7, FAMILY, u16 t, t template bytes, u16 n, n elements: why not. The line is `NUMBER GROUP`, the mask in
+//     eight hexadecimal digits, `-` where no group is given.
+// FAMILY is a byte: 0, and the elements are integers of four bytes, or 1, and they are floats of eight; every
+// pattern of a NaN is the same element. ROOM is the whole room afterwards in hexadecimal, `-` where r is 0. A
+// request over its bounds (t 5,000, n 64, r and w 1,024), another first byte or family, and a request that
+// ends early get the line `bad`, and the run ends.
 use ask_parts::Answer;
+use ask_parts::FLOATS;
 use ask_parts::JUDGE;
 use ask_parts::MATCH;
 use ask_parts::NORMALISE;
 use ask_parts::print_answer;
 use ask_parts::read_request;
 use matcher::judge;
+use matcher::judge_floats;
+use matcher::match_floats;
 use matcher::match_list;
 use normal::normalise;
 use why::why_not;
+use why::why_not_floats;
 
 // Each byte of a room before a call.
 const UNTOUCHED: u8 = 165;
@@ -32,8 +38,8 @@ fn of_number(number: u8) -> Answer {
     }
 }
 
-// What the entry point for this kind gives back. The room of a judgement holds the witness. Of a bad request it is not printed.
-fn answer_of(kind: usize, template: &[u8], list: &[i32], room: &mut [u8]) -> Answer {
+// What the entry point for this kind and a list of integers gives back.
+fn of_integers(kind: usize, template: &[u8], list: &[i32], room: &mut [u8]) -> Answer {
     if kind == MATCH {
         return of_number(match_list(template, list, room));
     }
@@ -56,21 +62,68 @@ fn answer_of(kind: usize, template: &[u8], list: &[i32], room: &mut [u8]) -> Ans
     }
 }
 
+// The same for a list of floats.
+fn of_floats(kind: usize, template: &[u8], list: &[f64], room: &mut [u8]) -> Answer {
+    if kind == MATCH {
+        return of_number(match_floats(template, list, room));
+    }
+    if kind == JUDGE {
+        return of_number(judge_floats(template, list, room));
+    }
+    let why = why_not_floats(template, list);
+    Answer {
+        number: why.number,
+        length: 0,
+        group: why.group,
+    }
+}
+
+// The room of a judgement holds the witness. Of a bad request nothing of this is printed.
+fn answer_of(
+    kind: usize,
+    family: usize,
+    template: &[u8],
+    integers: &[i32],
+    floats: &[f64],
+    room: &mut [u8],
+) -> Answer {
+    if family == FLOATS {
+        return of_floats(kind, template, floats, room);
+    }
+    of_integers(kind, template, integers, room)
+}
+
 // Prints the line, and says whether another request may follow.
-fn answer(kind: usize, template: &[u8], list: &[i32], room: &mut [u8]) -> bool {
-    let given = answer_of(kind, template, list, room);
+fn answer(
+    kind: usize,
+    family: usize,
+    template: &[u8],
+    integers: &[i32],
+    floats: &[f64],
+    room: &mut [u8],
+) -> bool {
+    let given = answer_of(kind, family, template, integers, floats, room);
     print_answer(kind, given, room)
 }
 
+// Both lists have as many elements as were read; only that of the family is looked at.
 fn take_request() -> bool {
     let mut template = [0u8; 5000];
-    let mut list = [0i32; 64];
+    let mut integers = [0i32; 64];
+    let mut floats = [0.0f64; 64];
     let mut room = [UNTOUCHED; 1024];
-    let request = read_request(&mut template, &mut list, &mut room);
+    let request = read_request(&mut template, &mut integers, &mut floats, &mut room);
     let t = request.template;
     let n = request.list;
     let r = request.room;
-    answer(request.kind, &template[..t], &list[..n], &mut room[..r])
+    answer(
+        request.kind,
+        request.family,
+        &template[..t],
+        &integers[..n],
+        &floats[..n],
+        &mut room[..r],
+    )
 }
 
 // Nothing says that the input ends, so the turns are counted down from a number that no run uses up.

@@ -1,5 +1,6 @@
 // The requests of the test program `ask`, read from standard input, and the lines of their answers, written to standard output. The
 // program's header says the format of both.
+use floats::float_at;
 use integers::int_at;
 use libc::STDIN_FILENO;
 use libc::STDOUT_FILENO;
@@ -13,6 +14,11 @@ pub const JUDGE: usize = 2;
 pub const NORMALISE: usize = 3;
 
 pub const WHY_NOT: usize = 7;
+
+// The second byte says its family, where the kind has one.
+const INTEGERS: usize = 0;
+
+pub const FLOATS: usize = 1;
 
 // The kind of a bad request.
 const BAD: usize = 0;
@@ -28,9 +34,11 @@ const ASKED_LIST_MOST: usize = 64;
 // Of the bytes of a room, and of a witness.
 const ASKED_ROOM_MOST: usize = 1024;
 
-// What stands at the front of the three arrays that are lent: template bytes, integers, and the bytes of the room or the witness.
+// What stands at the front of the arrays that are lent: template bytes, integers or floats as the family says, and the bytes of the room or the
+// witness.
 pub struct Request {
     pub kind: usize,
+    pub family: usize,
     pub template: usize,
     pub list: usize,
     pub room: usize,
@@ -106,13 +114,53 @@ fn read_integers(list: &mut [i32], n: usize) -> bool {
     true
 }
 
-// Reads a count and as many integers, and gives back the count. A normal form has no list.
-fn read_list(kind: usize, list: &mut [i32]) -> usize {
+// Reads `n` floats to the front of `list`, and says whether there was room and input for them.
+fn read_floats(list: &mut [f64], n: usize) -> bool {
+    if list.len() < n {
+        return false;
+    }
+    if ASKED_LIST_MOST < n {
+        return false;
+    }
+    let mut bytes = [0u8; 512];
+    if !read_bytes(&mut bytes, 8 * n) {
+        return false;
+    }
+    let mut i: usize = 0;
+    while i < n {
+        list[i] = float_at(&bytes, 8 * i);
+        i += 1;
+    }
+    true
+}
+
+// Reads `n` elements of the family, and says whether there was room and input for them.
+fn read_elements(family: usize, integers: &mut [i32], floats: &mut [f64], n: usize) -> bool {
+    if family == FLOATS {
+        return read_floats(floats, n);
+    }
+    read_integers(integers, n)
+}
+
+// Reads a count and as many elements, and gives back the count. A normal form has no list.
+fn read_list(kind: usize, family: usize, integers: &mut [i32], floats: &mut [f64]) -> usize {
     if kind == NORMALISE {
         return 0;
     }
     let n = next_count();
-    if read_integers(list, n) { n } else { ABSENT }
+    if read_elements(family, integers, floats, n) {
+        n
+    } else {
+        ABSENT
+    }
+}
+
+// Reads the family. A normal form is of integers only.
+fn read_family(kind: usize) -> usize {
+    if kind == NORMALISE {
+        return INTEGERS;
+    }
+    next_byte()
 }
 
 // Reads the last count, and the witness of a judgement.
@@ -131,17 +179,21 @@ fn without_parts(kind: usize) -> Request
 {
     Request {
         kind,
+        family: INTEGERS,
         template: 0,
         list: 0,
         room: 0,
     }
 }
 
-fn within_bounds(kind: usize, template: usize, list: usize, room: usize) -> Request
+fn within_bounds(kind: usize, family: usize, template: usize, list: usize, room: usize) -> Request
     ensures { λ r. ⌜ (r .template ≤ 5000) × (r .list ≤ 64) × (r .room ≤ 1024) ⌝ }
 {
     if kind == ABSENT {
         return without_parts(ABSENT);
+    }
+    if FLOATS < family {
+        return without_parts(BAD);
     }
     if ASKED_TEMPLATE_MOST < template {
         return without_parts(BAD);
@@ -154,6 +206,7 @@ fn within_bounds(kind: usize, template: usize, list: usize, room: usize) -> Requ
     }
     Request {
         kind,
+        family,
         template,
         list,
         room,
@@ -161,14 +214,20 @@ fn within_bounds(kind: usize, template: usize, list: usize, room: usize) -> Requ
 }
 
 // Reads the next request.
-pub fn read_request(template: &mut [u8], list: &mut [i32], room: &mut [u8]) -> Request
+pub fn read_request(
+    template: &mut [u8],
+    integers: &mut [i32],
+    floats: &mut [f64],
+    room: &mut [u8],
+) -> Request
     ensures { λ r. ⌜ (r .template ≤ 5000) × (r .list ≤ 64) × (r .room ≤ 1024) ⌝ }
 {
     let kind = next_byte();
+    let family = read_family(kind);
     let t = read_part(template);
-    let n = read_list(kind, list);
+    let n = read_list(kind, family, integers, floats);
     let r = read_room(kind, room);
-    within_bounds(kind, t, n, r)
+    within_bounds(kind, family, t, n, r)
 }
 
 fn print(byte: u8) {
