@@ -8,7 +8,7 @@
  *   - A pointer with a length is valid for that many elements, for reading, or, where it is called a room, for reading and writing. With length
  *     0 nothing is read or written there, and it may be NULL. With any other length it must not be NULL.
  *   - What is written (a room, *length, *group) overlaps no other argument. What is only read may overlap.
- *   - A list is aligned as int32_t is, a length as size_t, a group as uint32_t.
+ *   - A list is aligned as its elements are, int32_t or double, a length as size_t, a group as uint32_t.
  *   - Nobody writes to an argument until the function has returned, and nobody reads what it writes.
  * Nothing else is read or written: there is no state, no memory is asked for, and no pointer is kept. Any number of threads may call at once.
  *
@@ -40,7 +40,8 @@ enum {
     INTAKE_LEFT_OVER = 10,      /* bytes left after the template */
     INTAKE_LIST_TOO_LONG = 11,  /* list over INTAKE_LIST_MOST elements */
     INTAKE_ROOM_TOO_SHORT = 12, /* room shorter than the list, or than the normal form */
-    INTAKE_OTHER_LENGTH = 13    /* offered witness not as long as the list */
+    INTAKE_OTHER_LENGTH = 13,   /* offered witness not as long as the list */
+    INTAKE_NOT_A_NUMBER = 14    /* NaN in a template of floats */
 };
 
 /* The limits, in bytes, elements and bytes. A room of INTAKE_LIST_MOST bytes is enough for every witness, one of INTAKE_FORM_MOST for every form. */
@@ -53,7 +54,7 @@ enum {
  * Reads template_length bytes at template_bytes and list_length integers at list.
  * Writes, with INTAKE_DONE only, the first list_length bytes of the room: the first witness in byte order, for each element the member that it is
  * given to. No other byte of the room changes, and with any other number none does.
- * Gives every number but INTAKE_OTHER_LENGTH.
+ * Gives every number but INTAKE_OTHER_LENGTH and INTAKE_NOT_A_NUMBER.
  */
 uint8_t intake_match(const uint8_t *template_bytes, size_t template_length,
                      const int32_t *list, size_t list_length,
@@ -63,7 +64,7 @@ uint8_t intake_match(const uint8_t *template_bytes, size_t template_length,
  * Does the offered witness obey: INTAKE_DONE, INTAKE_NO_MATCH, or a refusal.
  * Reads template_length bytes at template_bytes, list_length integers at list and witness_length bytes at witness.
  * Writes nothing.
- * Gives every number but INTAKE_ROOM_TOO_SHORT.
+ * Gives every number but INTAKE_ROOM_TOO_SHORT and INTAKE_NOT_A_NUMBER.
  */
 uint8_t intake_judge(const uint8_t *template_bytes, size_t template_length,
                      const int32_t *list, size_t list_length,
@@ -74,7 +75,7 @@ uint8_t intake_judge(const uint8_t *template_bytes, size_t template_length,
  * Reads template_length bytes at template_bytes.
  * Writes *length, always: with INTAKE_DONE how many bytes the form has, else 0. length must not be NULL.
  * Writes, with INTAKE_DONE only, the first *length bytes of the room: the form. No other byte of the room changes, and with any other number none does.
- * Never gives INTAKE_NO_MATCH, INTAKE_LENGTH_CLASH, INTAKE_LIST_TOO_LONG or INTAKE_OTHER_LENGTH.
+ * Never gives INTAKE_NO_MATCH, INTAKE_LENGTH_CLASH, INTAKE_LIST_TOO_LONG, INTAKE_OTHER_LENGTH or INTAKE_NOT_A_NUMBER.
  */
 uint8_t intake_normalise(const uint8_t *template_bytes, size_t template_length,
                          uint8_t *room, size_t room_length, size_t *length);
@@ -84,10 +85,40 @@ uint8_t intake_normalise(const uint8_t *template_bytes, size_t template_length,
  * Reads template_length bytes at template_bytes and list_length integers at list.
  * Writes *group, always: with INTAKE_NO_MATCH, where the template is a superset or a subset whose length attribute is met, the group that is the
  * reason, of a superset bit m for member m, of a subset bit e for element e; in every other case 0. group must not be NULL.
- * Never gives INTAKE_ROOM_TOO_SHORT or INTAKE_OTHER_LENGTH.
+ * Never gives INTAKE_ROOM_TOO_SHORT, INTAKE_OTHER_LENGTH or INTAKE_NOT_A_NUMBER.
  */
 uint8_t intake_why_not(const uint8_t *template_bytes, size_t template_length,
                        const int32_t *list, size_t list_length, uint32_t *group);
+
+/*
+ * Does the list of floats match the template of floats, whose leaves are 06, 07 and 03? A double is a 64-bit float of IEEE 754, and every one is an
+ * element, a NaN too: only a 03 and a complement match it.
+ * Reads template_length bytes at template_bytes and list_length floats at list.
+ * Writes what intake_match writes.
+ * Gives every number but INTAKE_OTHER_LENGTH.
+ */
+uint8_t intake_match_floats(const uint8_t *template_bytes, size_t template_length,
+                            const double *list, size_t list_length,
+                            uint8_t *room, size_t room_length);
+
+/*
+ * Does the offered witness of a list of floats obey: INTAKE_DONE, INTAKE_NO_MATCH, or a refusal.
+ * Reads template_length bytes at template_bytes, list_length floats at list and witness_length bytes at witness.
+ * Writes nothing.
+ * Gives every number but INTAKE_ROOM_TOO_SHORT.
+ */
+uint8_t intake_judge_floats(const uint8_t *template_bytes, size_t template_length,
+                            const double *list, size_t list_length,
+                            const uint8_t *witness, size_t witness_length);
+
+/*
+ * Why does the list of floats not match? The number is the one that intake_match_floats gives with a room that is long enough.
+ * Reads template_length bytes at template_bytes and list_length floats at list.
+ * Writes *group as intake_why_not does, always. group must not be NULL.
+ * Never gives INTAKE_ROOM_TOO_SHORT or INTAKE_OTHER_LENGTH.
+ */
+uint8_t intake_why_not_floats(const uint8_t *template_bytes, size_t template_length,
+                              const double *list, size_t list_length, uint32_t *group);
 
 #ifdef __cplusplus
 }

@@ -5,6 +5,7 @@
  */
 #include "intake.h"
 
+#include <stdbool.h>
 #include <stdio.h>
 #include <stdlib.h>
 #include <string.h>
@@ -16,6 +17,7 @@ enum { KIND = 4, TEMPLATE, LIST, LENT, FIELDS = 9 }; /* places of fields in a ro
 
 static uint8_t template[INTAKE_TEMPLATE_MOST], witness[INTAKE_LIST_MOST], room[ROOM_MOST];
 static int32_t list[INTAKE_LIST_MOST];
+static double floats[INTAKE_LIST_MOST];
 static size_t template_length, list_length, witness_length, room_length, form_length;
 
 static void fail(const char *text)
@@ -44,6 +46,23 @@ static size_t read_integers(char *field, int32_t *to)
     return count;
 }
 
+/* The floats of a field, each by its eight bytes in hex, low byte first, which is how this machine has them; - for none. */
+static size_t read_floats(char *field, double *to)
+{
+    size_t count = 0;
+    for (char *word = strtok(field, " "); word != NULL && strcmp(word, "-") != 0; word = strtok(NULL, " ")) {
+        uint8_t bytes[sizeof *to];
+        unsigned byte;
+        if (count == INTAKE_LIST_MOST) fail("a list is too long");
+        for (size_t i = 0; i < sizeof bytes; i++) {
+            if (sscanf(word + 2 * i, "%2x", &byte) != 1) fail("a float has not eight bytes");
+            bytes[i] = (uint8_t)byte;
+        }
+        memcpy(&to[count++], bytes, sizeof bytes);
+    }
+    return count;
+}
+
 static void read_witness(char *field)
 {
     int32_t members[INTAKE_LIST_MOST];
@@ -59,10 +78,14 @@ static void lend_room(const char *length)
 }
 
 /* One loop for each kind, so that the kind is not asked for in a turn. */
-static uint8_t call(char kind, int times)
+static uint8_t call(char kind, bool of_floats, int times)
 {
     uint8_t number = 0;
-    if (kind == 'm')
+    if (kind == 'm' && of_floats)
+        for (int i = 0; i < times; i++) number = intake_match_floats(template, template_length, floats, list_length, room, room_length);
+    else if (kind == 'j' && of_floats)
+        for (int i = 0; i < times; i++) number = intake_judge_floats(template, template_length, floats, list_length, witness, witness_length);
+    else if (kind == 'm')
         for (int i = 0; i < times; i++) number = intake_match(template, template_length, list, list_length, room, room_length);
     else if (kind == 'j')
         for (int i = 0; i < times; i++) number = intake_judge(template, template_length, list, list_length, witness, witness_length);
@@ -99,14 +122,15 @@ static void split(char *row, char *fields[FIELDS])
 static void make_calls(char *fields[FIELDS])
 {
     char kind = fields[KIND][0];
+    bool of_floats = strstr(fields[KIND], " floats") != NULL;
     read_template(fields[TEMPLATE]);
-    list_length = read_integers(fields[LIST], list);
+    list_length = of_floats ? read_floats(fields[LIST], floats) : read_integers(fields[LIST], list);
     if (kind == 'j') read_witness(fields[LENT]);
     else lend_room(fields[LENT]);
     mark();
-    call(kind, 1);
+    call(kind, of_floats, 1);
     mark();
-    uint8_t number = call(kind, 2);
+    uint8_t number = call(kind, of_floats, 2);
     mark();
     print_answer(number, kind);
 }

@@ -1,6 +1,7 @@
-//! Intake from Rust: whether a list of integers matches a rule, by which assignment, and why not; and the normal form of an element template.
+//! Intake from Rust: whether a list of integers or of floats matches a rule, by which assignment, and why not; and the normal form of an element
+//! template.
 //!
-//! The four functions are those of `include/intake.h`, proved in the repository's crate `exports`. This wrapper is not proved. It lends the rooms
+//! The functions are those of `include/intake.h`, proved in the repository's crate `exports`. This wrapper is not proved. It lends the rooms
 //! itself, and its types leave no way to hand over a wrong length: a [`List`] has at most [`LIST_MOST`] elements, and an [`Offer`] one member for
 //! each element of its list. So the numbers 11, 12 and 13 (list too long, room too short, offered witness of another length) are never given.
 //! A rule is any run of bytes; every one gets an answer.
@@ -25,7 +26,7 @@
 mod library;
 mod parts;
 
-pub use parts::{Form, Group, List, Offer, Refusal, Witness};
+pub use parts::{FloatList, Form, Group, List, Offer, Refusal, Witness};
 use std::num::NonZeroU32;
 
 /// A rule of more bytes is refused with [`Refusal::TooLong`].
@@ -80,8 +81,28 @@ pub enum Why {
 /// Whether the list matches the rule, and by which witness: the first in byte order.
 pub fn match_list(rule: &[u8], list: List<'_>) -> Answer {
     let mut room = [0; LIST_MOST];
-    match library::match_list(rule, list.elements(), &mut room) {
-        DONE => Answer::Matched(Witness::at_front(room, list)),
+    let number = library::match_list(rule, list.elements(), &mut room);
+    answer(number, room, list.elements().len())
+}
+
+/// The same for a list of floats and a rule for floats.
+///
+/// ```
+/// use intake::{match_floats, Answer, FloatList};
+///
+/// let rule = [&[0x10, 1, 0x07][..], &870.0f64.to_le_bytes(), &1085.0f64.to_le_bytes()].concat(); // {(870.0..1085.0)}
+/// assert!(matches!(match_floats(&rule, FloatList::new(&[1013.25]).unwrap()), Answer::Matched(_)));
+/// assert_eq!(match_floats(&rule, FloatList::new(&[f64::NAN]).unwrap()), Answer::NoMatch);
+/// ```
+pub fn match_floats(rule: &[u8], list: FloatList<'_>) -> Answer {
+    let mut room = [0; LIST_MOST];
+    let number = library::match_floats(rule, list.elements(), &mut room);
+    answer(number, room, list.elements().len())
+}
+
+fn answer(number: u8, room: [u8; LIST_MOST], length: usize) -> Answer {
+    match number {
+        DONE => Answer::Matched(Witness::at_front(room, length)),
         NO_MATCH => Answer::NoMatch,
         number => Answer::Refused(Refusal::of(number)),
     }
@@ -89,7 +110,24 @@ pub fn match_list(rule: &[u8], list: List<'_>) -> Answer {
 
 /// Whether the offered witness obeys the rule, for the list that it is offered for.
 pub fn judge(rule: &[u8], offer: Offer<'_>) -> Verdict {
-    match library::judge(rule, offer.list().elements(), offer.members()) {
+    verdict(library::judge(
+        rule,
+        offer.list().elements(),
+        offer.members(),
+    ))
+}
+
+/// The same for a list of floats and a rule for floats.
+pub fn judge_floats(rule: &[u8], offer: Offer<'_, f64>) -> Verdict {
+    verdict(library::judge_floats(
+        rule,
+        offer.list().elements(),
+        offer.members(),
+    ))
+}
+
+fn verdict(number: u8) -> Verdict {
+    match number {
         DONE => Verdict::Obeys,
         NO_MATCH => Verdict::DoesNotObey,
         number => Verdict::Refused(Refusal::of(number)),
@@ -125,6 +163,16 @@ pub fn normalise(template: &[u8]) -> Result<Form, Refusal> {
 /// ```
 pub fn why_not(rule: &[u8], list: List<'_>) -> Why {
     let (number, mask) = library::why_not(rule, list.elements());
+    reason(rule, number, mask)
+}
+
+/// The same for a list of floats and a rule for floats.
+pub fn why_not_floats(rule: &[u8], list: FloatList<'_>) -> Why {
+    let (number, mask) = library::why_not_floats(rule, list.elements());
+    reason(rule, number, mask)
+}
+
+fn reason(rule: &[u8], number: u8, mask: u32) -> Why {
     match (number, NonZeroU32::new(mask)) {
         (DONE, _) => Why::Matched,
         (NO_MATCH, None) => Why::NoMatch,

@@ -39,6 +39,32 @@ extern "C" {
         list_length: usize,
         group: *mut u32,
     ) -> u8;
+
+    fn intake_match_floats(
+        template: *const u8,
+        template_length: usize,
+        list: *const f64,
+        list_length: usize,
+        room: *mut u8,
+        room_length: usize,
+    ) -> u8;
+
+    fn intake_judge_floats(
+        template: *const u8,
+        template_length: usize,
+        list: *const f64,
+        list_length: usize,
+        witness: *const u8,
+        witness_length: usize,
+    ) -> u8;
+
+    fn intake_why_not_floats(
+        template: *const u8,
+        template_length: usize,
+        list: *const f64,
+        list_length: usize,
+        group: *mut u32,
+    ) -> u8;
 }
 
 /// The number; with 0 the witness is at the front of the room.
@@ -93,6 +119,52 @@ pub fn why_not(template: &[u8], list: &[i32]) -> (u8, u32) {
     // SAFETY: as said above; `group` is a local of its own.
     let number = unsafe {
         intake_why_not(
+            template.as_ptr(),
+            template.len(),
+            list.as_ptr(),
+            list.len(),
+            &mut group,
+        )
+    };
+    (number, group)
+}
+
+/// Of floats: the number; with 0 the witness is at the front of the room.
+pub fn match_floats(template: &[u8], list: &[f64], room: &mut [u8; LIST_MOST]) -> u8 {
+    // SAFETY: as said above.
+    unsafe {
+        intake_match_floats(
+            template.as_ptr(),
+            template.len(),
+            list.as_ptr(),
+            list.len(),
+            room.as_mut_ptr(),
+            room.len(),
+        )
+    }
+}
+
+/// Of floats: the number.
+pub fn judge_floats(template: &[u8], list: &[f64], witness: &[u8]) -> u8 {
+    // SAFETY: as said above.
+    unsafe {
+        intake_judge_floats(
+            template.as_ptr(),
+            template.len(),
+            list.as_ptr(),
+            list.len(),
+            witness.as_ptr(),
+            witness.len(),
+        )
+    }
+}
+
+/// Of floats: the number, and the mask of the group.
+pub fn why_not_floats(template: &[u8], list: &[f64]) -> (u8, u32) {
+    let mut group = 0;
+    // SAFETY: as said above; `group` is a local of its own.
+    let number = unsafe {
+        intake_why_not_floats(
             template.as_ptr(),
             template.len(),
             list.as_ptr(),

@@ -6,24 +6,27 @@ use std::fmt;
 use std::num::NonZeroU32;
 use std::ops::Deref;
 
-/// A list of at most [`LIST_MOST`] integers.
+/// A list of at most [`LIST_MOST`] elements: integers, or, as a [`FloatList`], floats.
 #[derive(Clone, Copy, Debug, PartialEq, Eq)]
-pub struct List<'a>(&'a [i32]);
+pub struct List<'a, T = i32>(&'a [T]);
 
-impl<'a> List<'a> {
+/// A list of floats. Every `f64` can be an element, a NaN too.
+pub type FloatList<'a> = List<'a, f64>;
+
+impl<'a, T: Copy> List<'a, T> {
     /// The list of these elements, or `None` where they are too many.
-    pub fn new(elements: &'a [i32]) -> Option<List<'a>> {
+    pub fn new(elements: &'a [T]) -> Option<List<'a, T>> {
         (elements.len() <= LIST_MOST).then_some(List(elements))
     }
 
     /// Its elements.
-    pub fn elements(self) -> &'a [i32] {
+    pub fn elements(self) -> &'a [T] {
         self.0
     }
 
     /// A witness for this list that the judge can look at: for each element the member that it is given to. `None` where there is not one
     /// member for each element.
-    pub fn offer(self, members: &'a [u8]) -> Option<Offer<'a>> {
+    pub fn offer(self, members: &'a [u8]) -> Option<Offer<'a, T>> {
         let list = self;
         (members.len() == list.0.len()).then_some(Offer { list, members })
     }
@@ -31,14 +34,14 @@ impl<'a> List<'a> {
 
 /// A list, and for each of its elements a member: made by [`List::offer`].
 #[derive(Clone, Copy, Debug, PartialEq, Eq)]
-pub struct Offer<'a> {
-    list: List<'a>,
+pub struct Offer<'a, T = i32> {
+    list: List<'a, T>,
     members: &'a [u8],
 }
 
-impl<'a> Offer<'a> {
+impl<'a, T: Copy> Offer<'a, T> {
     /// The list that it is for.
-    pub fn list(self) -> List<'a> {
+    pub fn list(self) -> List<'a, T> {
         self.list
     }
 
@@ -56,9 +59,8 @@ pub struct Witness {
 }
 
 impl Witness {
-    /// The bytes at the front of the room, one for each element.
-    pub(crate) fn at_front(room: [u8; LIST_MOST], list: List<'_>) -> Witness {
-        let length = list.elements().len();
+    /// The bytes at the front of the room, one for each element of a list of this length.
+    pub(crate) fn at_front(room: [u8; LIST_MOST], length: usize) -> Witness {
         Witness { room, length }
     }
 }
@@ -147,6 +149,8 @@ pub enum Refusal {
     LengthClash = 9,
     /// Bytes are left after the template.
     LeftOver = 10,
+    /// A float of the rule is a NaN. Only a rule for floats is refused so.
+    NotANumber = 14,
 }
 
 impl Refusal {
@@ -167,6 +171,7 @@ impl Refusal {
             7 => Refusal::TooDeep,
             8 => Refusal::TooMany,
             9 => Refusal::LengthClash,
+            14 => Refusal::NotANumber,
             _ => {
                 debug_assert_eq!(number, 10, "the library gives no such number");
                 Refusal::LeftOver
@@ -187,6 +192,7 @@ impl fmt::Display for Refusal {
             Refusal::TooMany => "there is a member, a leaf or an any-elements too many",
             Refusal::LengthClash => "the length attribute leaves no list to the superset or subset",
             Refusal::LeftOver => "bytes are left after the template",
+            Refusal::NotANumber => "a float of the template is a NaN",
         })
     }
 }

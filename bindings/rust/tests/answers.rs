@@ -1,7 +1,7 @@
 //! The wrapper on the static library: the examples of README.md, each refusal, and the lengths that the types keep out.
 
-use intake::{judge, match_list, normalise, why_not};
-use intake::{Answer, List, Refusal, Verdict, Why, FORM_MOST, LIST_MOST, TEMPLATE_MOST};
+use intake::{judge, judge_floats, match_floats, match_list, normalise, why_not, why_not_floats};
+use intake::{Answer, FloatList, List, Refusal, Verdict, Why, FORM_MOST, LIST_MOST, TEMPLATE_MOST};
 
 /// set of {any value, 1}
 const ANY_AND_ONE: [u8; 8] = [0x11, 2, 3, 1, 1, 0, 0, 0];
@@ -27,6 +27,18 @@ fn single(value: i32) -> Vec<u8> {
 
 fn range(lower: i32, upper: i32) -> Vec<u8> {
     [&[2], &lower.to_le_bytes()[..], &upper.to_le_bytes()[..]].concat()
+}
+
+fn floats(elements: &[f64]) -> FloatList<'_> {
+    FloatList::new(elements).unwrap()
+}
+
+fn float(value: f64) -> Vec<u8> {
+    [&[6], &value.to_le_bytes()[..]].concat()
+}
+
+fn float_range(lower: f64, upper: f64) -> Vec<u8> {
+    [&[7], &lower.to_le_bytes()[..], &upper.to_le_bytes()[..]].concat()
 }
 
 /// An element template or a body of this kind with these parts.
@@ -133,4 +145,70 @@ fn a_group_is_of_members_or_of_elements() {
     assert_eq!(why_not(&sensors, list(&[12, 13, 25])), Why::Matched);
     assert_eq!(why_not(&ANY_AND_ONE, list(&[5, 5])), Why::NoMatch);
     assert_eq!(why_not(&few_by_length, list(&[1, 2, 3, 4])), Why::NoMatch);
+}
+
+#[test]
+fn a_pressure_is_within_its_bounds() {
+    let rule = of(0x10, &[float_range(870.0, 1085.0)]);
+    for pressure in [870.0, 1013.25, 1085.0] {
+        match match_floats(&rule, floats(&[pressure])) {
+            Answer::Matched(witness) => assert_eq!(*witness, [0]),
+            other => panic!("{other:?}"),
+        }
+    }
+    for other in [869.5, 1085.5, f64::INFINITY, f64::NAN, -f64::NAN] {
+        assert_eq!(match_floats(&rule, floats(&[other])), Answer::NoMatch);
+    }
+    let pressure = [1013.25];
+    let offer = |members| floats(&pressure).offer(members).unwrap();
+    assert_eq!(judge_floats(&rule, offer(&[0])), Verdict::Obeys);
+    assert_eq!(judge_floats(&rule, offer(&[255])), Verdict::DoesNotObey);
+    assert_eq!(floats(&pressure).offer(&[0, 0]), None);
+}
+
+#[test]
+fn a_nan_in_a_list_is_an_element() {
+    let rule = of(0x11, &[vec![3], of(5, &[float(0.0)])]);
+    match match_floats(&rule, floats(&[f64::NAN, -0.0])) {
+        Answer::Matched(witness) => assert_eq!(*witness, [1, 0]),
+        other => panic!("{other:?}"),
+    }
+    let few = of(0x13, &[float(0.0), vec![3]]);
+    match why_not_floats(&few, floats(&[f64::NAN, 0.0, f64::NAN])) {
+        Why::Elements(group) => assert!(group.places().eq([0, 2])),
+        other => panic!("{other:?}"),
+    }
+    let two = of(0x12, &[float(0.0), float(-0.0)]);
+    match why_not_floats(&two, floats(&[0.0, f64::NAN])) {
+        Why::Members(group) => assert!(group.places().eq([0, 1])),
+        other => panic!("{other:?}"),
+    }
+}
+
+#[test]
+fn a_nan_in_a_rule_is_refused() {
+    let (list, nan) = ([1.0], Refusal::NotANumber);
+    for leaf in [
+        float(f64::NAN),
+        float_range(f64::NAN, 1.0),
+        float_range(1.0, f64::NAN),
+    ] {
+        let rule = of(0x10, &[leaf]);
+        let offer = floats(&list).offer(&[0]).unwrap();
+        assert_eq!(match_floats(&rule, floats(&list)), Answer::Refused(nan));
+        assert_eq!(judge_floats(&rule, offer), Verdict::Refused(nan));
+        assert_eq!(why_not_floats(&rule, floats(&list)), Why::Refused(nan));
+    }
+    assert_eq!(nan.number(), 14);
+    assert!(!nan.to_string().is_empty());
+}
+
+#[test]
+fn a_rule_is_for_one_family() {
+    let refused = Answer::Refused(Refusal::BadKind);
+    assert_eq!(match_list(&of(0x10, &[float(1.0)]), list(&[1])), refused);
+    assert_eq!(
+        match_floats(&of(0x10, &[single(1)]), floats(&[1.0])),
+        refused
+    );
 }

@@ -14,6 +14,12 @@ use Rattle.exports.proofs.intake_normalise.Reads as intake-normalise
 use Rattle.exports.proofs.intake_normalise.Kinds as intake-normalise-kinds
 use Rattle.exports.proofs.intake_why_not.Reads as intake-why-not
 use Rattle.exports.proofs.intake_why_not.Kinds as intake-why-not-kinds
+use Rattle.exports.proofs.intake_match_floats.Reads as intake-match-floats
+use Rattle.exports.proofs.intake_match_floats.Kinds as intake-match-floats-kinds
+use Rattle.exports.proofs.intake_judge_floats.Reads as intake-judge-floats
+use Rattle.exports.proofs.intake_judge_floats.Kinds as intake-judge-floats-kinds
+use Rattle.exports.proofs.intake_why_not_floats.Reads as intake-why-not-floats
+use Rattle.exports.proofs.intake_why_not_floats.Kinds as intake-why-not-floats-kinds
 
 -- number and every byte of the room
 pub intake-match-unique : (κs : Lfts 3) (a : Dens κs intake-match-kinds.ps) (r r′ : resT intake-match-kinds.r κs .Denot) (s s′ : AtExit (endedOf 3 intake-match-kinds.ps intake-match-kinds.r) κs)
@@ -33,3 +39,16 @@ intake-normalise-unique κs a r r′ s s′ p q = answer-parts _ r r′ _ _ _ _ 
 pub intake-why-not-unique : (κs : Lfts 3) (a : Dens κs intake-why-not-kinds.ps) (r r′ : resT intake-why-not-kinds.r κs .Denot) (s s′ : AtExit (endedOf 3 intake-why-not-kinds.ps intake-why-not-kinds.r) κs)
     → intake-why-not.Post κs a r s → intake-why-not.Post κs a r′ s′ → (r ≡ r′) × (s .1 .1 .0 .now ≡ s′ .1 .1 .0 .now)
 intake-why-not-unique κs a r r′ s s′ p q = (one-number p q, one-group p q)
+
+-- the same of floats
+pub intake-match-floats-unique : (κs : Lfts 3) (a : Dens κs intake-match-floats-kinds.ps) (r r′ : resT intake-match-floats-kinds.r κs .Denot) (s s′ : AtExit (endedOf 3 intake-match-floats-kinds.ps intake-match-floats-kinds.r) κs)
+    → intake-match-floats.Post κs a r s → intake-match-floats.Post κs a r′ s′ → (r ≡ r′) × (s .1 .1 .0 .now ≡ s′ .1 .1 .0 .now)
+intake-match-floats-unique κs a r r′ s s′ p q = one-given _ r r′ _ _ p q
+
+pub intake-judge-floats-unique : (κs : Lfts 3) (a : Dens κs intake-judge-floats-kinds.ps) (r r′ : resT intake-judge-floats-kinds.r κs .Denot) (s s′ : AtExit (endedOf 3 intake-judge-floats-kinds.ps intake-judge-floats-kinds.r) κs)
+    → intake-judge-floats.Post κs a r s → intake-judge-floats.Post κs a r′ s′ → r ≡ r′
+intake-judge-floats-unique κs a r r′ s s′ p q = p ∙ sym q
+
+pub intake-why-not-floats-unique : (κs : Lfts 3) (a : Dens κs intake-why-not-floats-kinds.ps) (r r′ : resT intake-why-not-floats-kinds.r κs .Denot) (s s′ : AtExit (endedOf 3 intake-why-not-floats-kinds.ps intake-why-not-floats-kinds.r) κs)
+    → intake-why-not-floats.Post κs a r s → intake-why-not-floats.Post κs a r′ s′ → (r ≡ r′) × (s .1 .1 .0 .now ≡ s′ .1 .1 .0 .now)
+intake-why-not-floats-unique κs a r r′ s s′ p q = (one-number p q, one-group p q)
