@@ -2,17 +2,22 @@
 -- Assumes nothing.
 -- Row        == a number and the bytes for which it is given; 0: accepted
 -- templates, elements == the rows of whole templates, and of element templates by themselves
+-- ofFloats   == rows of whole templates of floats
 use mathlib.Core.Path.{_≡_, refl}
 use mathlib.Core.List.{List, [], _∷_, _++_}
 use mathlib.Core.Bool.{Bool, true, false, _&&_}
 use Prim.Native.Nat.{ℕ, zero, suc}
 use lib.Dec.{eqb}
 use lib.IntN.{pos}
+use lib.Ieee.{ofBits, isNan, lt}
 use Rattle.integers.specs.Integer.{signed, intAt}
+use Rattle.floats.specs.Bytes.{floatAt}
+use Rattle.floats.specs.Leaves.{oneFault, boundsFault as rangeFault}
 use Rattle.grammar.specs.Element.{Elem, leaf, oneOf, noneOf, none, more}
 use Rattle.grammar.specs.Template.{membersOfGroup, membersOfItem}
 use Rattle.grammar.specs.Record.{countFault, boundsFault, groupHead, head}
 use Rattle.grammar.specs.Leaf.{Leaf, singleHead, rangeHead, leafHead, single, range}
+use Rattle.grammar.specs.FloatLeaf.{oneHead, floatRangeHead, floatHead}
 use Rattle.grammar.specs.Read.{verdict, ended, mapRead}
 use Rattle.grammar.specs.Reading.{uncounted, putFirst, thenMore, many, closed, tooDeep, opened, elem, readElement}
 use Rattle.grammar.specs.Whole.{starHere, numbered, putMember, thenMembers, thenStar, putItem, thenItems, clashes, member, members, permutationHere, item, items, contents, bodyHere, templateHere, readTemplate}
@@ -145,6 +150,44 @@ templates-right = refl
 elements-right : right (λ s. verdict (readElement leafHead s)) elements ≡ true
 unfolding right repeat elements signed intAt countFault groupHead head singleHead rangeHead leafHead verdict ended uncounted putFirst thenMore many closed tooDeep opened elem readElement
 elements-right = refl
+
+-- ---- floats
+floatOf : ℕ → ℕ → List ℕ → List ℕ
+floatOf low high s = 0x00 ∷ 0x00 ∷ 0x00 ∷ 0x00 ∷ 0x00 ∷ 0x00 ∷ low ∷ high ∷ s
+
+zero-then : List ℕ → List ℕ
+zero-then = floatOf 0x00 0x00
+
+one-then : List ℕ → List ℕ
+one-then = floatOf 0xf0 0x3f
+
+infinity-then : List ℕ → List ℕ
+infinity-then = floatOf 0xf0 0x7f
+
+nan-then : List ℕ → List ℕ
+nan-then = floatOf 0xf8 0x7f
+
+ofFloats : List Row
+ofFloats =
+    row 0 (0x10 ∷ 0x02 ∷ 0x06 ∷ one-then (0x07 ∷ one-then (infinity-then []))) ∷
+    row 0 (0x10 ∷ 0x01 ∷ 0x06 ∷ infinity-then []) ∷
+    row 0 (0x10 ∷ 0x01 ∷ 0x07 ∷ zero-then (floatOf 0x00 0x80 [])) ∷  -- 0 to minus 0
+    row 3 (0x10 ∷ 0x01 ∷ 0x06 ∷ repeat 7 (0x00 ∷ []) []) ∷
+    row 3 (0x10 ∷ 0x01 ∷ 0x07 ∷ repeat 15 (0x00 ∷ []) []) ∷
+    row 4 (0x10 ∷ 0x01 ∷ 0x01 ∷ repeat 4 (0x00 ∷ []) []) ∷
+    row 4 (0x10 ∷ 0x01 ∷ 0x02 ∷ repeat 8 (0x00 ∷ []) []) ∷
+    row 6 (0x10 ∷ 0x01 ∷ 0x07 ∷ infinity-then (one-then [])) ∷
+    row 14 (0x10 ∷ 0x01 ∷ 0x06 ∷ nan-then []) ∷
+    row 14 (0x10 ∷ 0x01 ∷ 0x07 ∷ nan-then (one-then [])) ∷
+    row 14 (0x10 ∷ 0x01 ∷ 0x07 ∷ one-then (nan-then [])) ∷
+    row 14 (0x10 ∷ 0x01 ∷ repeat 8 (0x04 ∷ 0x01 ∷ []) (0x06 ∷ nan-then [])) ∷  -- at depth 9: 14 comes before 7
+    row 7 (0x10 ∷ 0x01 ∷ repeat 8 (0x04 ∷ 0x01 ∷ []) (0x06 ∷ one-then [])) ∷
+    row 10 (0x10 ∷ 0x01 ∷ 0x06 ∷ one-then (0x03 ∷ [])) ∷
+    []
+
+of-floats-right : right (λ s. verdict (readTemplate floatHead s)) ofFloats ≡ true
+unfolding right repeat floatOf zero-then one-then infinity-then nan-then ofFloats ofBits isNan lt floatAt oneFault rangeFault oneHead floatRangeHead floatHead membersOfItem countFault groupHead head verdict ended uncounted putFirst thenMore many closed tooDeep opened elem mapRead numbered putItem thenItems clashes member item items contents bodyHere templateHere readTemplate
+of-floats-right = refl
 
 -- ---- when an element matches
 five : Elem Leaf
