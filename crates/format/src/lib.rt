@@ -9,7 +9,7 @@ pub enum Family {
     Floats,
 }
 
-// ---- kinds of records: element templates, bodies, items, the length attribute
+// ---- kinds of records: element templates, bodies, items, the length attribute, the element type
 pub const SINGLE: u8 = 0x01;
 
 pub const RANGE: u8 = 0x02;
@@ -38,6 +38,8 @@ pub const PERMUTATION: u8 = 0x21;
 
 pub const LENGTH: u8 = 0x30;
 
+pub const TYPE: u8 = 0x31;
+
 // ---- kinds of the program's input
 pub const VALUES: u8 = 0x40;
 
@@ -57,6 +59,8 @@ pub const FLOAT_RANGE_SIZE: usize = 17;
 pub const COUNT_SIZE: usize = 2;
 
 pub const BOUNDS_SIZE: usize = 3;
+
+pub const TYPE_SIZE: usize = 9;
 
 pub const TEMPLATE_SIZE: usize = 3;
 
@@ -90,6 +94,10 @@ pub const ROOM_TOO_SHORT: u8 = 12;
 pub const OTHER_LENGTH: u8 = 13;
 
 pub const NOT_A_NUMBER: u8 = 14;
+
+pub const LEAF_OUTSIDE: u8 = 16;
+
+pub const ELEMENT_OUTSIDE: u8 = 17;
 
 // ---- limits. Leaves and members are numbered from 0, so the last of 64 leaves is 63 and the last of 32 members 31
 pub const TEMPLATE_MOST: usize = 4096;

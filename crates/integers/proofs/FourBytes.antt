@@ -37,11 +37,17 @@ bits-signed u p =
     (λ e. let h : u < 2147483648 = borrow.Author.Tests.ltb-true u 2147483648 e in rw (signed-low u h))
     (λ e. let h : 2147483648 ≤ u = borrow.Author.Tests.ltb-false u 2147483648 e in rw (signed-high u h) (omega arith))
 
-pub word-signed : (u : ℕ) → u < 4294967296 → Word (signed u)
-word-signed u p =
+-- whatever the bytes are
+pub word-signed : (u : ℕ) → Word (signed u)
+word-signed u =
     by-test (ltb u 2147483648)
     (λ e. let h : u < 2147483648 = borrow.Author.Tests.ltb-true u 2147483648 e in rw (signed-low u h) (omega arith))
     (λ e. let h : 2147483648 ≤ u = borrow.Author.Tests.ltb-false u 2147483648 e in rw (signed-high u h) (omega arith))
+
+-- every integer that is read is a 32-bit one
+pub word-intAt : (s : List ℕ) (i : ℕ) → Word (intAt s i)
+unfolding intAt
+word-intAt s i = word-signed (bitsAt s i)
 
 -- ---- the bytes
 

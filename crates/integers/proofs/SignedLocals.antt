@@ -3,7 +3,7 @@
 use Prim.Native.Nat.{ℕ, _+_, _-_, _≤_, _<_}
 use native.Mathlib.Omega.{arith}
 use mathlib.Core.Path.{_≡_, sym, ap, _∙_}
-use mathlib.Core.Bool.{true, false}
+use mathlib.Core.Bool.{Bool, true, false}
 use lib.IntN.{ℤ, pos, negsuc, _+ℤ_, _-ℤ_}
 use lib.Signed.{ltZ, leZ}
 use mir.Syntax.{w32}
@@ -31,6 +31,10 @@ bits-fit z p = fits-ofZ {w = w32} {z = z} (record { sfits = p }) .fits
 
 -- ---- tests
 
+-- the test of two integers that were read, out of their bits
+pub told-order : (a b i j : ℤ) (f : Bool) → ltZ (again a) (again b) ≡ f → Word a → Word b → a ≡ i → b ≡ j → ltZ i j ≡ f
+told-order a b i j f h p q e g = rw (again-same a p, again-same b q, e, g) at h
+
 pub lt-rank : (x y : ℤ) → Word x → Word y → ltZ x y ≡ true → rank x < rank y
 lt-rank x y p q e = ltb-true (rank x) (rank y) (sym (rank-ltZ x y p q) ∙ e)
 
@@ -53,6 +57,10 @@ most-no (pos n) p f = other n f p
     other : (n : ℕ) → (n ≡ 2147483647 → ⊥) → n < 2147483648 → n + 2147483648 < 4294967295
     other n f p = omega arith
 most-no (negsuc n) p f = omega arith
+
+pub least-yes : (z : ℤ) → Word z → ofZ w32 z ≡ 2147483648 → z ≡ negsuc 2147483647
+least-yes (pos n) p e = absurd (omega arith)
+least-yes (negsuc n) p e = ap negsuc (omega arith)
 
 -- ---- neighbours, as the code computes them
 

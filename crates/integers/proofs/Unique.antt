@@ -13,6 +13,10 @@ use Rattle.integers.proofs.put_int.Reads as put-int
 use Rattle.integers.proofs.put_int.Kinds as put-int-kinds
 use Rattle.integers.proofs.same.Reads as same
 use Rattle.integers.proofs.same.Kinds as same-kinds
+use Rattle.integers.proofs.to_bits.Reads as to-bits
+use Rattle.integers.proofs.to_bits.Kinds as to-bits-kinds
+use Rattle.integers.proofs.to_signed.Reads as to-signed
+use Rattle.integers.proofs.to_signed.Kinds as to-signed-kinds
 use Rattle.integers.proofs.within.Reads as within
 use Rattle.integers.proofs.within.Kinds as within-kinds
 
@@ -40,3 +44,11 @@ within-unique κs a r r′ s s′ p q = p ∙ sym q
 pub join-bytes-unique : (κs : Lfts 0) (a : Dens κs join-bytes-kinds.ps) (r r′ : resT join-bytes-kinds.r κs .Denot) (s s′ : AtExit (endedOf 0 join-bytes-kinds.ps join-bytes-kinds.r) κs)
     → join-bytes.Post κs a r s → join-bytes.Post κs a r′ s′ → r ≡ r′
 join-bytes-unique κs a r r′ s s′ p q = p ∙ sym q
+
+pub to-bits-unique : (κs : Lfts 0) (a : Dens κs to-bits-kinds.ps) (r r′ : resT to-bits-kinds.r κs .Denot) (s s′ : AtExit (endedOf 0 to-bits-kinds.ps to-bits-kinds.r) κs)
+    → to-bits.Post κs a r s → to-bits.Post κs a r′ s′ → r ≡ r′
+to-bits-unique κs a r r′ s s′ p q = p ∙ sym q
+
+pub to-signed-unique : (κs : Lfts 0) (a : Dens κs to-signed-kinds.ps) (r r′ : resT to-signed-kinds.r κs .Denot) (s s′ : AtExit (endedOf 0 to-signed-kinds.ps to-signed-kinds.r) κs)
+    → to-signed.Post κs a r s → to-signed.Post κs a r′ s′ → r ≡ r′
+to-signed-unique κs a r r′ s s′ p q = p ∙ sym q

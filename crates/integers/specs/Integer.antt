@@ -1,5 +1,6 @@
 -- 32-bit integers (docs/RULES.md, "Integers as bytes": "An integer takes four bytes, the low byte first").
 -- Word z          <-> z is a 32-bit integer, -2147483648 to 2147483647
+-- least, greatest == -2147483648, which has no lower neighbour, and 2147483647, which has no upper one
 -- joined a b c d  == the number that four bytes say with no sign, the low byte a first
 -- signed u        == the integer whose 32 bits are those of u
 -- bitsAt s i      == the number that the four bytes of s from the place i on say with no sign
@@ -19,6 +20,12 @@ use lib.Signed.{mag}
 
 abbrev pub Word : ℤ → Type 0
 Word z = mag z < 2147483648
+
+abbrev pub least : ℤ
+least = negsuc 2147483647
+
+abbrev pub greatest : ℤ
+greatest = pos 2147483647
 
 abbrev pub joined : ℕ → ℕ → ℕ → ℕ → ℕ
 joined a b c d = a + b * 256 + c * 65536 + d * 16777216

@@ -16,7 +16,7 @@ pub fn join_bytes(b0: u8, b1: u8, b2: u8, b3: u8) -> u32
 }
 
 // The integer whose bits are those of u. No cast loses a bit: each is of a number below 2 ^ 31.
-fn to_signed(u: u32) -> i32
+pub fn to_signed(u: u32) -> i32
     ensures { λ r. ⌜ r ≡ signed u ⌝ }
 {
     if u < 0x8000_0000 {
@@ -27,7 +27,7 @@ fn to_signed(u: u32) -> i32
 }
 
 // The bits of x.
-fn to_bits(x: i32) -> u32
+pub fn to_bits(x: i32) -> u32
     ensures { λ r. ⌜ r ≡ bits x ⌝ }
 {
     if x < 0 {
