@@ -31,7 +31,7 @@ module _ {L : Type 0} where
   any-joined test (more e es) fs x = ap (λ (u : Bool). matchesBy test e x || u) (any-joined test es fs x) ∙ sym (or-assoc (matchesBy test e x) (anyMatchesBy test es x) (anyMatchesBy test fs x))
 
   -- one, then the others
-  many-more : (p : ℕ → List ℕ → Read (Counted (Elem L))) (n k : ℕ) (s : List ℕ) (e : Elem L) (k₁ : ℕ) (s₁ : List ℕ) (es : Elems L) (k′ : ℕ) (s′ : List ℕ)
+  pub many-more : (p : ℕ → List ℕ → Read (Counted (Elem L))) (n k : ℕ) (s : List ℕ) (e : Elem L) (k₁ : ℕ) (s₁ : List ℕ) (es : Elems L) (k′ : ℕ) (s′ : List ℕ)
       → p k s ≡ got (counted e k₁) s₁ → many p n k₁ s₁ ≡ got (counted es k′) s′ → many p (suc n) k s ≡ got (counted (more e es) k′) s′
   unfolding many thenMore putFirst
   many-more p n k s e k₁ s₁ es k′ s′ one others = rw (one, others)

@@ -3,6 +3,7 @@
 -- Row        == a number and the bytes for which it is given; 0: accepted
 -- templates, elements == the rows of whole templates, and of element templates by themselves
 -- ofFloats   == rows of whole templates of floats
+-- typed      == rows of whole templates with a type; hours == rows of element templates among the hours 0 to 23
 use mathlib.Core.Path.{_≡_, refl}
 use mathlib.Core.List.{List, [], _∷_, _++_}
 use mathlib.Core.Bool.{Bool, true, false, _&&_}
@@ -10,17 +11,18 @@ use Prim.Native.Nat.{ℕ, zero, suc}
 use lib.Dec.{eqb}
 use lib.IntN.{pos}
 use lib.Ieee.{ofBits, isNan, lt}
+use Rattle.format.specs.declared.Family.{Family}
 use Rattle.integers.specs.Integer.{signed, intAt}
 use Rattle.floats.specs.Bytes.{floatAt}
 use Rattle.floats.specs.Leaves.{oneFault, boundsFault as rangeFault}
 use Rattle.grammar.specs.Element.{Elem, leaf, oneOf, noneOf, none, more}
 use Rattle.grammar.specs.Template.{membersOfGroup, membersOfItem}
-use Rattle.grammar.specs.Record.{countFault, boundsFault, groupHead, head}
-use Rattle.grammar.specs.Leaf.{Leaf, singleHead, rangeHead, leafHead, single, range}
+use Rattle.grammar.specs.Record.{countFault, boundsFault, typeFault, groupHead, head}
+use Rattle.grammar.specs.Leaf.{Leaf, singleHead, rangeHead, leafHead, single, range, reaches, ofType, typedHead}
 use Rattle.grammar.specs.FloatLeaf.{oneHead, floatRangeHead, floatHead}
-use Rattle.grammar.specs.Read.{verdict, ended, mapRead}
+use Rattle.grammar.specs.Read.{verdict, ended, mapRead, andThen}
 use Rattle.grammar.specs.Reading.{uncounted, putFirst, thenMore, many, closed, tooDeep, opened, elem, readElement}
-use Rattle.grammar.specs.Whole.{starHere, numbered, putMember, thenMembers, thenStar, putItem, thenItems, clashes, member, members, permutationHere, item, items, contents, bodyHere, templateHere, readTemplate}
+use Rattle.grammar.specs.Whole.{starHere, numbered, putMember, thenMembers, thenStar, putItem, thenItems, clashes, member, members, permutationHere, item, items, contents, bodyHere, lengthHere, typeHere, headsHere, templateHere, readTemplate}
 use Rattle.grammar.specs.Matches.{matchesBy, leafMatches, matches}
 
 data Row : Type 0 where
@@ -143,13 +145,65 @@ elements =
     row 2 (repeat 4097 (0x03 ∷ []) ([])) ∷
     []
 
-templates-right : right (λ s. verdict (readTemplate leafHead s)) templates ≡ true
-unfolding right repeat templates signed intAt membersOfGroup membersOfItem countFault boundsFault groupHead head singleHead rangeHead leafHead verdict ended uncounted putFirst thenMore many closed tooDeep opened elem mapRead starHere numbered putMember thenMembers thenStar putItem thenItems clashes member members permutationHere item items contents bodyHere templateHere readTemplate
+templates-right : right (λ s. verdict (readTemplate Family.Integers s)) templates ≡ true
+unfolding right repeat templates signed intAt membersOfGroup membersOfItem countFault boundsFault groupHead head singleHead rangeHead leafHead verdict ended uncounted putFirst thenMore many closed tooDeep opened elem mapRead starHere numbered putMember thenMembers thenStar putItem thenItems clashes member members permutationHere item items contents bodyHere lengthHere typeHere typeFault headsHere andThen reaches ofType templateHere readTemplate
 templates-right = refl
 
 elements-right : right (λ s. verdict (readElement leafHead s)) elements ≡ true
 unfolding right repeat elements signed intAt countFault groupHead head singleHead rangeHead leafHead verdict ended uncounted putFirst thenMore many closed tooDeep opened elem readElement
 elements-right = refl
+
+-- ---- types
+
+bytesOf : ℕ → List ℕ → List ℕ
+bytesOf n s = n ∷ 0x00 ∷ 0x00 ∷ 0x00 ∷ s
+
+-- the hours of a day
+day : List ℕ → List ℕ
+day s = 0x31 ∷ bytesOf 0x00 (bytesOf 0x17 s)
+
+typed : List Row
+typed =
+    row 0 (day (0x10 ∷ 0x01 ∷ 0x01 ∷ bytesOf 0x17 [])) ∷
+    row 0 (day (0x10 ∷ 0x01 ∷ 0x02 ∷ bytesOf 0x00 (bytesOf 0x17 []))) ∷
+    row 0 (day (0x10 ∷ 0x01 ∷ 0x03 ∷ [])) ∷
+    row 0 (0x30 ∷ 0x00 ∷ 0xff ∷ day (0x10 ∷ 0x00 ∷ [])) ∷
+    row 0 (0x31 ∷ bytesOf 0x07 (bytesOf 0x07 (0x10 ∷ 0x00 ∷ []))) ∷  -- a type of one integer
+    row 3 (0x31 ∷ []) ∷
+    row 3 (0x31 ∷ bytesOf 0x05 (0x04 ∷ 0x00 ∷ 0x00 ∷ [])) ∷
+    row 3 (day []) ∷
+    row 4 (day (day (0x10 ∷ 0x00 ∷ []))) ∷  -- twice
+    row 4 (day (0x30 ∷ 0x00 ∷ 0xff ∷ 0x10 ∷ 0x00 ∷ [])) ∷  -- a 30 that comes too late
+    row 6 (0x31 ∷ bytesOf 0x05 (bytesOf 0x03 (0x30 ∷ 0x00 ∷ 0xff ∷ 0x10 ∷ 0x00 ∷ []))) ∷  -- the earlier head's own fault comes first
+    row 6 (0x30 ∷ 0x05 ∷ 0x04 ∷ 0x31 ∷ []) ∷
+    row 6 (day (0x10 ∷ 0x01 ∷ 0x02 ∷ bytesOf 0x18 (bytesOf 0x00 []))) ∷  -- 6 before 16
+    row 16 (day (0x10 ∷ 0x01 ∷ 0x02 ∷ 0x00 ∷ 0x00 ∷ 0x00 ∷ 0x80 ∷ bytesOf 0x05 [])) ∷  -- the least is not cut to the type
+    row 16 (day (0x10 ∷ 0x01 ∷ 0x02 ∷ bytesOf 0x05 (0xff ∷ 0xff ∷ 0xff ∷ 0x7f ∷ []))) ∷
+    row 16 (day (0x10 ∷ 0x02 ∷ 0x01 ∷ bytesOf 0x18 (0xff ∷ []))) ∷
+    row 16 (day (0x10 ∷ 0x01 ∷ 0x05 ∷ 0x01 ∷ 0x01 ∷ bytesOf 0x18 [])) ∷
+    row 16 (day (0x10 ∷ 0x01 ∷ repeat 8 (0x04 ∷ 0x01 ∷ []) (0x01 ∷ bytesOf 0x18 []))) ∷  -- 16 before 7
+    row 3 (day (0x10 ∷ 0x01 ∷ repeat 8 (0x04 ∷ 0x01 ∷ []) (0x01 ∷ 0x18 ∷ 0x00 ∷ 0x00 ∷ []))) ∷
+    row 9 (0x30 ∷ 0x02 ∷ 0x07 ∷ day (0x12 ∷ 0x03 ∷ 0x01 ∷ bytesOf 0x18 [])) ∷
+    row 10 (day (0x10 ∷ 0x01 ∷ 0x03 ∷ 0x00 ∷ [])) ∷
+    []
+
+typed-right : right (λ s. verdict (readTemplate Family.Integers s)) typed ≡ true
+unfolding right repeat bytesOf day typed signed intAt membersOfGroup membersOfItem countFault boundsFault typeFault groupHead head singleHead rangeHead leafHead reaches ofType verdict ended uncounted putFirst thenMore many closed tooDeep opened elem mapRead andThen starHere numbered putMember thenMembers thenStar putItem thenItems clashes member members permutationHere item items contents bodyHere lengthHere typeHere headsHere templateHere readTemplate
+typed-right = refl
+
+hours : List Row
+hours =
+    row 0 (0x03 ∷ []) ∷
+    row 0 (0x01 ∷ bytesOf 0x17 []) ∷
+    row 16 (0x01 ∷ bytesOf 0x18 []) ∷
+    row 16 (0x02 ∷ bytesOf 0x00 (bytesOf 0x18 [])) ∷
+    row 6 (0x02 ∷ bytesOf 0x18 (bytesOf 0x00 [])) ∷
+    row 4 (day []) ∷
+    []
+
+hours-right : right (λ s. verdict (readElement (typedHead (pos 0) (pos 23)) s)) hours ≡ true
+unfolding right bytesOf day hours signed intAt countFault groupHead head singleHead rangeHead leafHead reaches ofType verdict ended uncounted putFirst thenMore many closed tooDeep opened elem readElement
+hours-right = refl
 
 -- ---- floats
 floatOf : ℕ → ℕ → List ℕ → List ℕ
@@ -175,6 +229,8 @@ ofFloats =
     row 3 (0x10 ∷ 0x01 ∷ 0x06 ∷ repeat 7 (0x00 ∷ []) []) ∷
     row 3 (0x10 ∷ 0x01 ∷ 0x07 ∷ repeat 15 (0x00 ∷ []) []) ∷
     row 4 (0x10 ∷ 0x01 ∷ 0x01 ∷ repeat 4 (0x00 ∷ []) []) ∷
+    row 4 (day (0x10 ∷ 0x00 ∷ [])) ∷  -- no 31
+    row 4 (0x31 ∷ []) ∷
     row 4 (0x10 ∷ 0x01 ∷ 0x02 ∷ repeat 8 (0x00 ∷ []) []) ∷
     row 6 (0x10 ∷ 0x01 ∷ 0x07 ∷ infinity-then (one-then [])) ∷
     row 14 (0x10 ∷ 0x01 ∷ 0x06 ∷ nan-then []) ∷
@@ -185,8 +241,8 @@ ofFloats =
     row 10 (0x10 ∷ 0x01 ∷ 0x06 ∷ one-then (0x03 ∷ [])) ∷
     []
 
-of-floats-right : right (λ s. verdict (readTemplate floatHead s)) ofFloats ≡ true
-unfolding right repeat floatOf zero-then one-then infinity-then nan-then ofFloats ofBits isNan lt floatAt oneFault rangeFault oneHead floatRangeHead floatHead membersOfItem countFault groupHead head verdict ended uncounted putFirst thenMore many closed tooDeep opened elem mapRead numbered putItem thenItems clashes member item items contents bodyHere templateHere readTemplate
+of-floats-right : right (λ s. verdict (readTemplate Family.Floats s)) ofFloats ≡ true
+unfolding right repeat bytesOf day floatOf zero-then one-then infinity-then nan-then ofFloats ofBits isNan lt floatAt oneFault rangeFault oneHead floatRangeHead floatHead membersOfItem countFault groupHead head verdict ended uncounted putFirst thenMore many closed tooDeep opened elem mapRead numbered putItem thenItems clashes member item items contents bodyHere lengthHere typeHere headsHere andThen templateHere readTemplate
 of-floats-right = refl
 
 -- ---- when an element matches

@@ -3,6 +3,7 @@
 -- RecordParts    == one record at a place: its kind, and the fault of its count
 -- ReadApart      == what was read, taken apart: the parts of an element template, and where they stand
 -- Deeper         == readings put together: more depths left, one reading after another, and how many bytes they take
+-- TypedReading   == readings with an element type and without one
 -- LeafBounds     == a leaf matches what lies between its bounds
 -- RefusalNumbers == which numbers a refusal can have
 -- MemberLimit    == what was accepted has at most 4,096 bytes and 32 members
@@ -12,6 +13,7 @@ mod Examples
 pub mod RecordParts
 pub mod ReadApart
 pub mod Deeper
+pub mod TypedReading
 pub mod LeafBounds
 pub mod RefusalNumbers
 pub mod MemberLimit

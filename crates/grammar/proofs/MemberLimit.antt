@@ -1,4 +1,4 @@
--- What was accepted keeps the limits: a template that was read has at most 4,096 bytes and at most 32 members. Assumes nothing.
+-- What was accepted keeps the limits: a template that was read has at most 4,096 bytes and at most 32 members, and a type in order. Assumes nothing.
 use mathlib.Core.Path.{_≡_, refl, subst}
 use mathlib.Core.Bool.{Bool, true, false, _&&_, cond}
 use mathlib.Core.List.{List, [], _∷_}
@@ -7,13 +7,18 @@ use native.Mathlib.Omega.{arith}
 use borrow.Author.Tests.{ltb-false}
 use lib.Dec.{ltb, eqb}
 use lib.ListN.{length, getD, drop, length-append}
+use lib.Signed.{ltZ}
 use Rattle.facts.proofs.Cases.{by-test}
+use Rattle.integers.specs.Integer.{intAt}
+use Rattle.integers.proofs.FourBytes.{word-intAt}
 use Rattle.grammar.specs.Element.{Elem}
-use Rattle.grammar.specs.Template.{Star, noStar, star, Group, grouped, Item, one, permutation, Body, recordOf, setOf, superset, subset, Length, anyLength, between, Template, template, membersOfGroup, membersOfItem, membersOfItems, membersOf}
-use Rattle.grammar.specs.Record.{Head, fault, leafHere, group, kindOf, outside, countFault, boundsFault, head}
-use Rattle.grammar.specs.Read.{Read, refuse, got, orRefuse, refuseOr, ended, mapRead}
+use Rattle.grammar.specs.Template.{Star, noStar, star, Group, grouped, Item, one, permutation, Body, recordOf, setOf, superset, subset, Heads, noHeads, InOrder, Template, template, membersOfGroup, membersOfItem, membersOfItems, membersOf}
+use Rattle.format.specs.declared.Family.{Family}
+use Rattle.grammar.specs.Family.{LeafOf, hasTypes, leavesIn}
+use Rattle.grammar.specs.Record.{Head, fault, leafHere, group, kindOf, outside, countFault, boundsFault, typeFault, head}
+use Rattle.grammar.specs.Read.{Read, refuse, got, orRefuse, refuseOr, ended, mapRead, andThen}
 use Rattle.grammar.specs.Reading.{uncounted, outermost}
-use Rattle.grammar.specs.Whole.{asSpares, starHere, fewest, clashes, numbered, putMember, thenMembers, thenStar, putItem, thenItems, member, members, permutationHere, item, items, contents, bodyHere, templateHere, readTemplate}
+use Rattle.grammar.specs.Whole.{asSpares, starHere, fewest, clashes, numbered, putMember, thenMembers, thenStar, putItem, thenItems, member, members, permutationHere, item, items, contents, bodyHere, lengthHere, typeHere, headsHere, templateHere, readTemplate}
 use Rattle.grammar.proofs.ReadApart.{clash}
 
 -- P holds of whatever was read
@@ -33,6 +38,15 @@ mapped : {A B : Type 0} (P : A → Type 0) (Q : B → Type 0) (f : A → B) → 
 unfolding mapRead
 mapped P Q f h (refuse r) p = tt
 mapped P Q f h (got a s) p = h a p
+
+FewBody : {L : Type 0} → Body L → Type 0
+FewBody b = length (membersOf b) ≤ 32
+
+abbrev bodyOf : {L : Type 0} → Template L → Body L
+bodyOf (template h b) = b
+
+FewTemplate : {L : Type 0} → Template L → Type 0
+FewTemplate t = FewBody (bodyOf t)
 
 module _ {L : Type 0} (leaves : List ℕ → Head L) where
   -- a member is one more only below 32
@@ -114,9 +128,6 @@ module _ {L : Type 0} (leaves : List ℕ → Head L) where
       by-item (refuse r) k h = tt
       by-item (got i s′) k h = put i (items leaves n (m + length (membersOfItem i)) s′) (h (m + length (membersOfItem i)) s′ k)
 
-  FewBody : Body L → Type 0
-  FewBody b = length (membersOf b) ≤ 32
-
   contents-few : (kind n : ℕ) (s : List ℕ) → Holds FewBody (contents leaves kind n s)
   unfolding contents membersOf Few FewItems FewBody
   contents-few kind n s =
@@ -125,36 +136,92 @@ module _ {L : Type 0} (leaves : List ℕ → Head L) where
       (either FewBody (eqb kind 18) _ _ (mapped (Few 0) FewBody (λ g. superset (membersOfGroup g)) (λ g h. omega arith) _ (group-few false n 0 noStar s (omega arith)))
       (mapped (Few 0) FewBody (λ g. subset (membersOfGroup g)) (λ g h. omega arith) _ (group-few false n 0 noStar s (omega arith)))))
 
-  abbrev bodyOf : Template L → Body L
-  bodyOf (template a b) = b
-
-  FewTemplate : Template L → Type 0
-  FewTemplate t = FewBody (bodyOf t)
-
-  body-few : (a : Length) (s : List ℕ) → Holds FewTemplate (bodyHere leaves a s)
+  body-few : (h : Heads) (s : List ℕ) → Holds FewTemplate (bodyHere leaves h s)
   unfolding bodyHere FewTemplate
-  body-few a s =
+  body-few h s =
       either FewTemplate (eqb (length s) 0) (refuse 3) _ tt
       (either FewTemplate (outside 16 19 (kindOf s)) (refuse 4) _ tt
       (unless FewTemplate (countFault (fewest (kindOf s)) 32 s) _
-      (either FewTemplate (clashes a (kindOf s) (getD s 1 0)) (refuse 9) _ tt
-      (mapped FewBody FewTemplate (template a) (λ b h. h) _ (contents-few (kindOf s) (getD s 1 0) (drop 2 s))))))
+      (either FewTemplate (clashes (h .length) (kindOf s) (getD s 1 0)) (refuse 9) _ tt
+      (mapped FewBody FewTemplate (template h) (λ b f. f) _ (contents-few (kindOf s) (getD s 1 0) (drop 2 s))))))
 
-  template-few : (s : List ℕ) → Holds FewTemplate (templateHere leaves s)
-  unfolding templateHere
-  template-few s = either FewTemplate (eqb (kindOf s) 48) _ _ (unless FewTemplate (boundsFault s) _ (body-few (between (getD s 1 0) (getD s 2 0)) (drop 3 s))) (body-few anyLength s)
+module _ (fam : Family) where
+  template-few : (s : List ℕ) → Holds FewTemplate (templateHere fam s)
+  unfolding templateHere andThen
+  template-few s = go (headsHere fam s)
+    where
+      go : (o : Read Heads) → Holds FewTemplate (andThen o (λ h. bodyHere (leavesIn fam (h .lower) (h .upper)) h))
+      go (refuse r) = tt
+      go (got h s′) = body-few (leavesIn fam (h .lower) (h .upper)) h s′
 
   -- what was accepted is no longer than any template
-  pub accepted-short : (s : List ℕ) (t : Template L) → readTemplate leaves s ≡ got t [] → length s ≤ 4096
+  pub accepted-short : (s : List ℕ) (t : Template (LeafOf fam)) → readTemplate fam s ≡ got t [] → length s ≤ 4096
   unfolding readTemplate
   accepted-short s t q = by-test (ltb 4096 (length s)) (λ e. absurd (clash (rw e at q))) (λ e. ltb-false 4096 (length s) e)
 
-  pub accepted-few : (s : List ℕ) (a : Length) (b : Body L) → readTemplate leaves s ≡ got (template a b) [] → length (membersOf b) ≤ 32
+  pub accepted-few : (s : List ℕ) (h : Heads) (b : Body (LeafOf fam)) → readTemplate fam s ≡ got (template h b) [] → length (membersOf b) ≤ 32
   unfolding readTemplate ended FewTemplate FewBody
-  accepted-few s a b q = go (ltb 4096 (length s)) (templateHere leaves s) (template-few s) q
+  accepted-few s h b q = go (ltb 4096 (length s)) (templateHere fam s) (template-few s) q
     where
-      go : (c : Bool) (o : Read (Template L)) → Holds FewTemplate o → orRefuse c 2 (ended o) ≡ got (template a b) [] → length (membersOf b) ≤ 32
-      go true o h e = absurd (clash e)
-      go false (refuse r) h e = absurd (clash e)
-      go false (got t []) h e = let z : t ≡ template a b = cc in rw z at h
-      go false (got t (x ∷ r)) h e = absurd (clash e)
+      go : (c : Bool) (o : Read (Template (LeafOf fam))) → Holds FewTemplate o → orRefuse c 2 (ended o) ≡ got (template h b) [] → length (membersOf b) ≤ 32
+      go true o f e = absurd (clash e)
+      go false (refuse r) f e = absurd (clash e)
+      go false (got t []) f e = let z : t ≡ template h b = cc in rw z at f
+      go false (got t (x ∷ r)) f e = absurd (clash e)
+
+-- ---- the type
+
+abbrev headsOf : {L : Type 0} → Template L → Heads
+headsOf (template h b) = h
+
+abbrev TypeInOrder : {L : Type 0} → Template L → Type 0
+TypeInOrder t = InOrder (headsOf t)
+
+length-order : (h : Heads) (s : List ℕ) → InOrder h → Holds InOrder (lengthHere h s)
+unfolding lengthHere
+length-order h s o = either InOrder (eqb (kindOf s) 48) _ _ (unless InOrder (boundsFault s) _ o) o
+
+type-order : (fam : Family) (h : Heads) (s : List ℕ) → InOrder h → Holds InOrder (typeHere fam h s)
+unfolding typeHere typeFault
+type-order fam h s o = either InOrder (hasTypes fam && eqb (kindOf s) 49) _ _ (read (ltb (length s) 9) (ltZ (intAt s 5) (intAt s 1)) refl) o
+  where
+    read : (a b : Bool) → ltZ (intAt s 5) (intAt s 1) ≡ b → Holds InOrder (refuseOr (cond a 3 (cond b 6 0)) (got (record { length = h .length; lower = intAt s 1; upper = intAt s 5 }) (drop 9 s)))
+    read true b e = tt
+    read false true e = tt
+    read false false e = (word-intAt s 1, word-intAt s 5, e)
+
+heads-order : (fam : Family) (s : List ℕ) → Holds InOrder (headsHere fam s)
+unfolding headsHere andThen
+heads-order fam s = go (lengthHere noHeads s) (length-order noHeads s (omega arith, omega arith, refl))
+  where
+    go : (o : Read Heads) → Holds InOrder o → Holds InOrder (andThen o (typeHere fam))
+    go (refuse r) f = tt
+    go (got h s′) f = type-order fam h s′ f
+
+module _ {L : Type 0} (leaves : List ℕ → Head L) where
+  body-order : (h : Heads) (s : List ℕ) → InOrder h → Holds TypeInOrder (bodyHere leaves h s)
+  unfolding bodyHere
+  body-order h s o =
+      either TypeInOrder (eqb (length s) 0) (refuse 3) _ tt
+      (either TypeInOrder (outside 16 19 (kindOf s)) (refuse 4) _ tt
+      (unless TypeInOrder (countFault (fewest (kindOf s)) 32 s) _
+      (either TypeInOrder (clashes (h .length) (kindOf s) (getD s 1 0)) (refuse 9) _ tt
+      (mapped (λ (b : Body L). Unit {0}) TypeInOrder (template h) (λ b f. o) _ (any (contents leaves (kindOf s) (getD s 1 0) (drop 2 s)))))))
+    where
+      any : (o : Read (Body L)) → Holds (λ (b : Body L). Unit {0}) o
+      any (refuse r) = tt
+      any (got b t) = tt
+
+pub accepted-order : (fam : Family) (s : List ℕ) (h : Heads) (b : Body (LeafOf fam)) → readTemplate fam s ≡ got (template h b) [] → InOrder h
+unfolding readTemplate templateHere andThen ended
+accepted-order fam s h b q = whole (ltb 4096 (length s)) (templateHere fam s) (go (headsHere fam s) (heads-order fam s)) q
+  where
+    go : (o : Read Heads) → Holds InOrder o → Holds TypeInOrder (andThen o (λ h. bodyHere (leavesIn fam (h .lower) (h .upper)) h))
+    go (refuse r) f = tt
+    go (got a s′) f = body-order (leavesIn fam (a .lower) (a .upper)) a s′ f
+
+    whole : (c : Bool) (o : Read (Template (LeafOf fam))) → Holds TypeInOrder o → orRefuse c 2 (ended o) ≡ got (template h b) [] → InOrder h
+    whole true o f e = absurd (clash e)
+    whole false (refuse r) f e = absurd (clash e)
+    whole false (got t []) f e = let z : t ≡ template h b = cc in rw z at f
+    whole false (got t (x ∷ r)) f e = absurd (clash e)

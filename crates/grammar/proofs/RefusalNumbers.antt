@@ -1,5 +1,6 @@
 -- Which numbers a refusal can have: what holds of the table's rows holds of every refusal. Assumes nothing.
--- Row fam Q     <-> Q holds of the numbers 3 to 8, those of one record of an element template, and in the float family of 14
+-- OwnRow fam Q  <-> Q holds of the number that only templates of this family have: 16 for integers, 14 for floats
+-- Row fam Q     <-> Q holds of the numbers 3 to 8, those of one record of an element template, and of the family's own
 -- Refusals Q o  <-> Q holds of o's number, where o is a refusal
 -- elem-numbers, whole-numbers == so it is of element templates, and, where Q holds of 9 too, of templates
 -- TableRow fam s r <-> r is one of the rows about the bytes s themselves, and 2 only where they are too long
@@ -13,28 +14,29 @@ use Prim.Native.Nat.{ℕ, zero, suc, _+_, _<_, _≤_}
 use native.Mathlib.Omega.{arith}
 use borrow.Author.Tests.{ltb-true}
 use lib.Dec.{ltb, eqb}
+use lib.IntN.{ℤ}
 use lib.Signed.{ltZ}
 use lib.Ieee.{isNan, lt}
 use lib.ListN.{length, getD, drop}
-use Rattle.integers.specs.Integer.{intAt}
+use Rattle.integers.specs.Integer.{least, greatest, intAt}
 use Rattle.floats.specs.Bytes.{floatAt}
 use Rattle.floats.specs.Leaves.{oneFault, boundsFault as rangeFault}
 use Rattle.floats.specs.declared.Leaf.{Leaf as FloatLeaf}
 use Rattle.format.specs.declared.Family.{Family}
 use Rattle.grammar.specs.Element.{Elem, Elems, leaf}
-use Rattle.grammar.specs.Template.{Star, noStar, star, Group, grouped, Item, one, permutation, recordOf, setOf, superset, subset, Length, anyLength, between, Template, template, membersOfGroup, membersOfItem}
+use Rattle.grammar.specs.Template.{Star, noStar, star, Group, grouped, Item, one, permutation, recordOf, setOf, superset, subset, Heads, noHeads, Template, template, membersOfGroup, membersOfItem}
 use Rattle.format.specs.Bounds.{badBounds}
-use Rattle.grammar.specs.Record.{Head, fault, leafHere, group, kindOf, outside, countFault, boundsFault, faultOr, groupHead, head}
-use Rattle.grammar.specs.Leaf.{single, range, any, singleHead, rangeHead, leafHead}
+use Rattle.grammar.specs.Record.{Head, fault, leafHere, group, kindOf, outside, countFault, boundsFault, typeFault, faultOr, groupHead, head}
+use Rattle.grammar.specs.Leaf.{Leaf, single, range, any, singleHead, rangeHead, leafHead, reaches, ofType, typedHead}
 use Rattle.grammar.specs.FloatLeaf.{boundsAt, oneHead, floatRangeHead, floatHead}
-use Rattle.grammar.specs.Family.{LeafOf, leavesOf, RowOf}
-use Rattle.grammar.specs.Read.{Read, refuse, got, orRefuse, refuseOr, ended, limited, mapRead}
+use Rattle.grammar.specs.Family.{LeafOf, hasTypes, leavesIn, RowOf}
+use Rattle.grammar.specs.Read.{Read, refuse, got, orRefuse, refuseOr, ended, limited, mapRead, andThen}
 use Rattle.grammar.specs.Reading.{Counted, counted, uncounted, putFirst, thenMore, many, closed, tooDeep, opened, elem, outermost, readElement}
-use Rattle.grammar.specs.Whole.{asSpares, hasStar, starHere, fewest, clashes, numbered, putMember, thenMembers, thenStar, putItem, thenItems, member, members, permutationHere, item, items, contents, bodyHere, templateHere, readTemplate}
+use Rattle.grammar.specs.Whole.{asSpares, hasStar, starHere, fewest, clashes, numbered, putMember, thenMembers, thenStar, putItem, thenItems, member, members, permutationHere, item, items, contents, bodyHere, lengthHere, typeHere, headsHere, templateHere, readTemplate}
 
-abbrev NanRow : Family → (ℕ → Type 0) → Type 0
-NanRow Family.Integers Q = Unit {0}
-NanRow Family.Floats Q = Q 14
+abbrev OwnRow : Family → (ℕ → Type 0) → Type 0
+OwnRow Family.Integers Q = Q 16
+OwnRow Family.Floats Q = Q 14
 
 pub record Row (fam : Family) (Q : ℕ → Type 0) : Type 0 where
   pub r3 : Q 3
@@ -43,7 +45,7 @@ pub record Row (fam : Family) (Q : ℕ → Type 0) : Type 0 where
   pub r6 : Q 6
   pub r7 : Q 7
   pub r8 : Q 8
-  pub r14 : NanRow fam Q
+  pub own : OwnRow fam Q
 
 abbrev pub Refusals : {A : Type 0} → (ℕ → Type 0) → Read A → Type 0
 Refusals Q (refuse r) = Q r
@@ -89,22 +91,28 @@ module _ (Q : ℕ → Type 0) where
       (fault-either (eqb (kindOf s) 3) (leafHere FloatLeaf.Any (drop 1 s)) (fault 4) tt (row .r4)))
     where
       one : (b : Bool) → Faults Q (faultOr (cond b 14 0) (leafHere (FloatLeaf.Float (floatAt s 1)) (drop 9 s)))
-      one true = row .r14
+      one true = row .own
       one false = tt
 
       two : (b o : Bool) → Faults Q (faultOr (cond b 14 (cond o 6 0)) (leafHere (FloatLeaf.Range (boundsAt s 1)) (drop 17 s)))
-      two true o = row .r14
+      two true o = row .own
       two false true = row .r6
       two false false = tt
 
-  by-family : (fam : Family) → Row fam Q → (s : List ℕ) → Faults Q (leavesOf fam s)
-  by-family Family.Integers row s = integer-numbers row s
-  by-family Family.Floats row s = float-numbers row s
+  typed-numbers : (lo hi : ℤ) (h : Head Leaf) → Q 16 → Faults Q h → Faults Q (ofType lo hi h)
+  unfolding ofType
+  typed-numbers lo hi (fault r) own p = p
+  typed-numbers lo hi (leafHere l s) own p = fault-either (reaches lo hi l) (fault 16) (leafHere l s) own tt
+  typed-numbers lo hi (group c n s) own p = tt
 
-  module _ (fam : Family) (row : Row fam Q) where
-    count-numbers : (lo hi : ℕ) (s : List ℕ) {A : Type 0} (o : Read A) → Refusals Q o → Refusals Q (refuseOr (countFault lo hi s) o)
+  by-family : (fam : Family) (lo hi : ℤ) → Row fam Q → (s : List ℕ) → Faults Q (leavesIn fam lo hi s)
+  by-family Family.Integers lo hi row s = typed-numbers lo hi (leafHead s) (row .own) (integer-numbers row s)
+  by-family Family.Floats lo hi row s = float-numbers row s
+
+  module _ (fam : Family) (lo hi : ℤ) (row : Row fam Q) where
+    count-numbers : (few most : ℕ) (s : List ℕ) {A : Type 0} (o : Read A) → Refusals Q o → Refusals Q (refuseOr (countFault few most s) o)
     unfolding countFault
-    count-numbers lo hi s o p = go (ltb (length s) 2) (outside lo hi (getD s 1 0))
+    count-numbers few most s o p = go (ltb (length s) 2) (outside few most (getD s 1 0))
       where
         go : (a b : Bool) → Refusals Q (refuseOr (cond a 3 (cond b 5 0)) o)
         go true b = row .r3
@@ -131,15 +139,15 @@ module _ (Q : ℕ → Type 0) where
         go false true = row .r5
         go false false = tt
 
-    leaf-numbers : (s : List ℕ) → Faults Q (leavesOf fam s)
-    leaf-numbers s = by-family fam row s
+    leaf-numbers : (s : List ℕ) → Faults Q (leavesIn fam lo hi s)
+    leaf-numbers s = by-family fam lo hi row s
 
-    head-numbers : (s : List ℕ) → Faults Q (head (leavesOf fam) s)
+    head-numbers : (s : List ℕ) → Faults Q (head (leavesIn fam lo hi) s)
     unfolding head
     head-numbers s =
         fault-either (eqb (length s) 0) (fault 3) _ (row .r3)
         (fault-either (eqb (kindOf s) 4) (groupHead false s) _ (group-numbers false s)
-        (fault-either (eqb (kindOf s) 5) (groupHead true s) ((leavesOf fam) s) (group-numbers true s) (leaf-numbers s)))
+        (fault-either (eqb (kindOf s) 5) (groupHead true s) (leavesIn fam lo hi s) (group-numbers true s) (leaf-numbers s)))
 
     -- ---- element templates
 
@@ -157,25 +165,25 @@ module _ (Q : ℕ → Type 0) where
         go (refuse r) x y = x
         go (got (counted e j) r) x y = put-numbers e (many p n j r) (y j r)
 
-    pub elem-numbers : (left k : ℕ) (s : List ℕ) → Refusals Q (elem (leavesOf fam) left k s)
+    pub elem-numbers : (left k : ℕ) (s : List ℕ) → Refusals Q (elem (leavesIn fam lo hi) left k s)
     unfolding elem tooDeep opened closed
-    elem-numbers zero k s = go (head (leavesOf fam) s) (head-numbers s)
+    elem-numbers zero k s = go (head (leavesIn fam lo hi) s) (head-numbers s)
       where
         go : (h : Head (LeafOf fam)) → Faults Q h → Refusals Q (tooDeep h)
         go (fault r) x = x
         go (leafHere l r) x = row .r7
         go (group c n r) x = row .r7
-    elem-numbers (suc left) k s = go (head (leavesOf fam) s) (head-numbers s) (many-numbers (elem (leavesOf fam) left) (λ j r. elem-numbers left j r))
+    elem-numbers (suc left) k s = go (head (leavesIn fam lo hi) s) (head-numbers s) (many-numbers (elem (leavesIn fam lo hi) left) (λ j r. elem-numbers left j r))
       where
         close : (c : Bool) (o : Read (Counted (Elems (LeafOf fam)))) → Refusals Q o → Refusals Q (closed c o)
         close c (refuse r) x = x
         close false (got (counted es j) r) x = tt
         close true (got (counted es j) r) x = tt
 
-        go : (h : Head (LeafOf fam)) → Faults Q h → ((n j : ℕ) (r : List ℕ) → Refusals Q (many (elem (leavesOf fam) left) n j r)) → Refusals Q (opened (elem (leavesOf fam) left) k h)
+        go : (h : Head (LeafOf fam)) → Faults Q h → ((n j : ℕ) (r : List ℕ) → Refusals Q (many (elem (leavesIn fam lo hi) left) n j r)) → Refusals Q (opened (elem (leavesIn fam lo hi) left) k h)
         go (fault r) x y = x
         go (leafHere l r) x y = read-either (ltb 63 k) (refuse 8) (got (counted (leaf l) (k + 1)) r) (row .r8) tt
-        go (group c n r) x y = close c (many (elem (leavesOf fam) left) n k r) (y n k r)
+        go (group c n r) x y = close c (many (elem (leavesIn fam lo hi) left) n k r) (y n k r)
 
     -- ---- templates
 
@@ -183,57 +191,57 @@ module _ (Q : ℕ → Type 0) where
     unfolding starHere
     star-numbers seen s = bounds-numbers s _ (read-either seen (refuse 8) (got (star (getD s 1 0) (getD s 2 0)) (drop 3 s)) (row .r8) tt)
 
-    member-numbers : (m : ℕ) (s : List ℕ) → Refusals Q (member (leavesOf fam) m s)
+    member-numbers : (m : ℕ) (s : List ℕ) → Refusals Q (member (leavesIn fam lo hi) m s)
     unfolding member numbered
-    member-numbers m s = go (head (leavesOf fam) s) (head-numbers s)
+    member-numbers m s = go (head (leavesIn fam lo hi) s) (head-numbers s)
       where
-        inner : Refusals Q (uncounted (outermost (leavesOf fam) s))
-        inner = uncounted-numbers (outermost (leavesOf fam) s) (elem-numbers 8 0 s)
+        inner : Refusals Q (uncounted (outermost (leavesIn fam lo hi) s))
+        inner = uncounted-numbers (outermost (leavesIn fam lo hi) s) (elem-numbers 8 0 s)
 
-        go : (h : Head (LeafOf fam)) → Faults Q h → Refusals Q (numbered m h (uncounted (outermost (leavesOf fam) s)))
+        go : (h : Head (LeafOf fam)) → Faults Q h → Refusals Q (numbered m h (uncounted (outermost (leavesIn fam lo hi) s)))
         go (fault r) x = x
         go (leafHere l r) x = read-either (ltb 31 m) (refuse 8) _ (row .r8) inner
         go (group c n r) x = read-either (ltb 31 m) (refuse 8) _ (row .r8) inner
 
-    members-numbers : (stars : Bool) (n m : ℕ) (st : Star) (s : List ℕ) → Refusals Q (members (leavesOf fam) stars n m st s)
+    members-numbers : (stars : Bool) (n m : ℕ) (st : Star) (s : List ℕ) → Refusals Q (members (leavesIn fam lo hi) stars n m st s)
     unfolding members thenStar thenMembers putMember
     members-numbers stars zero m st s = tt
     members-numbers stars (suc n) m st s =
-        read-either (stars && eqb (kindOf s) 32) _ _ (by-star (starHere (hasStar st) s) (star-numbers (hasStar st) s) (λ st′ s′. members-numbers stars n m st′ s′)) (by-member (member (leavesOf fam) m s) (member-numbers m s) (λ s′. members-numbers stars n (m + 1) st s′))
+        read-either (stars && eqb (kindOf s) 32) _ _ (by-star (starHere (hasStar st) s) (star-numbers (hasStar st) s) (λ st′ s′. members-numbers stars n m st′ s′)) (by-member (member (leavesIn fam lo hi) m s) (member-numbers m s) (λ s′. members-numbers stars n (m + 1) st s′))
       where
         put : (e : Elem (LeafOf fam)) (o : Read (Group (LeafOf fam))) → Refusals Q o → Refusals Q (putMember e o)
         put e (refuse r) x = x
         put e (got (grouped es st′) s′) x = tt
 
-        by-star : (o : Read Star) → Refusals Q o → ((st′ : Star) (s′ : List ℕ) → Refusals Q (members (leavesOf fam) stars n m st′ s′)) → Refusals Q (thenStar o (members (leavesOf fam) stars n m))
+        by-star : (o : Read Star) → Refusals Q o → ((st′ : Star) (s′ : List ℕ) → Refusals Q (members (leavesIn fam lo hi) stars n m st′ s′)) → Refusals Q (thenStar o (members (leavesIn fam lo hi) stars n m))
         by-star (refuse r) x h = x
         by-star (got st′ s′) x h = h st′ s′
 
-        by-member : (o : Read (Elem (LeafOf fam))) → Refusals Q o → ((s′ : List ℕ) → Refusals Q (members (leavesOf fam) stars n (m + 1) st s′)) → Refusals Q (thenMembers o (members (leavesOf fam) stars n (m + 1) st))
+        by-member : (o : Read (Elem (LeafOf fam))) → Refusals Q o → ((s′ : List ℕ) → Refusals Q (members (leavesIn fam lo hi) stars n (m + 1) st s′)) → Refusals Q (thenMembers o (members (leavesIn fam lo hi) stars n (m + 1) st))
         by-member (refuse r) x h = x
-        by-member (got e s′) x h = put e (members (leavesOf fam) stars n (m + 1) st s′) (h s′)
+        by-member (got e s′) x h = put e (members (leavesIn fam lo hi) stars n (m + 1) st s′) (h s′)
 
-    item-numbers : (m : ℕ) (s : List ℕ) → Refusals Q (item (leavesOf fam) m s)
+    item-numbers : (m : ℕ) (s : List ℕ) → Refusals Q (item (leavesIn fam lo hi) m s)
     unfolding item permutationHere
     item-numbers m s =
         read-either (eqb (kindOf s) 32) _ _ (mapped asSpares _ (star-numbers false s))
         (read-either (eqb (kindOf s) 33) _ _ (count-numbers 1 32 s _ (mapped permutation _ (members-numbers true (getD s 1 0) m noStar (drop 2 s))))
         (mapped one _ (member-numbers m s)))
 
-    items-numbers : (n m : ℕ) (s : List ℕ) → Refusals Q (items (leavesOf fam) n m s)
+    items-numbers : (n m : ℕ) (s : List ℕ) → Refusals Q (items (leavesIn fam lo hi) n m s)
     unfolding items thenItems putItem
     items-numbers zero m s = tt
-    items-numbers (suc n) m s = by-item (item (leavesOf fam) m s) (item-numbers m s) (λ k s′. items-numbers n k s′)
+    items-numbers (suc n) m s = by-item (item (leavesIn fam lo hi) m s) (item-numbers m s) (λ k s′. items-numbers n k s′)
       where
         put : (i : Item (LeafOf fam)) (o : Read (List (Item (LeafOf fam)))) → Refusals Q o → Refusals Q (putItem i o)
         put i (refuse r) x = x
         put i (got is t) x = tt
 
-        by-item : (o : Read (Item (LeafOf fam))) → Refusals Q o → ((k : ℕ) (s′ : List ℕ) → Refusals Q (items (leavesOf fam) n k s′)) → Refusals Q (thenItems m o (items (leavesOf fam) n))
+        by-item : (o : Read (Item (LeafOf fam))) → Refusals Q o → ((k : ℕ) (s′ : List ℕ) → Refusals Q (items (leavesIn fam lo hi) n k s′)) → Refusals Q (thenItems m o (items (leavesIn fam lo hi) n))
         by-item (refuse r) x h = x
-        by-item (got i s′) x h = put i (items (leavesOf fam) n (m + length (membersOfItem i)) s′) (h (m + length (membersOfItem i)) s′)
+        by-item (got i s′) x h = put i (items (leavesIn fam lo hi) n (m + length (membersOfItem i)) s′) (h (m + length (membersOfItem i)) s′)
 
-    contents-numbers : (kind n : ℕ) (s : List ℕ) → Refusals Q (contents (leavesOf fam) kind n s)
+    contents-numbers : (kind n : ℕ) (s : List ℕ) → Refusals Q (contents (leavesIn fam lo hi) kind n s)
     unfolding contents
     contents-numbers kind n s =
         read-either (eqb kind 16) _ _ (mapped recordOf _ (items-numbers n 0 s))
@@ -241,18 +249,42 @@ module _ (Q : ℕ → Type 0) where
         (read-either (eqb kind 18) _ _ (mapped (λ g. superset (membersOfGroup g)) _ (members-numbers false n 0 noStar s)) (mapped (λ g. subset (membersOfGroup g)) _ (members-numbers false n 0 noStar s))))
 
     module _ (r9 : Q 9) where
-      body-numbers : (a : Length) (s : List ℕ) → Refusals Q (bodyHere (leavesOf fam) a s)
+      body-numbers : (h : Heads) (s : List ℕ) → Refusals Q (bodyHere (leavesIn fam lo hi) h s)
       unfolding bodyHere
-      body-numbers a s =
+      body-numbers h s =
           read-either (eqb (length s) 0) (refuse 3) _ (row .r3)
           (read-either (outside 16 19 (kindOf s)) (refuse 4) _ (row .r4)
           (count-numbers (fewest (kindOf s)) 32 s _
-          (read-either (clashes a (kindOf s) (getD s 1 0)) (refuse 9) _ r9
-          (mapped (template a) _ (contents-numbers (kindOf s) (getD s 1 0) (drop 2 s))))))
+          (read-either (clashes (h .length) (kindOf s) (getD s 1 0)) (refuse 9) _ r9
+          (mapped (template h) _ (contents-numbers (kindOf s) (getD s 1 0) (drop 2 s))))))
 
-      whole-numbers : (s : List ℕ) → Refusals Q (templateHere (leavesOf fam) s)
-      unfolding templateHere
-      whole-numbers s = read-either (eqb (kindOf s) 48) _ _ (bounds-numbers s _ (body-numbers (between (getD s 1 0) (getD s 2 0)) (drop 3 s))) (body-numbers anyLength s)
+  -- ---- the heads, and a whole template
+
+  module _ (fam : Family) (row : Row fam Q) where
+    type-numbers : (s : List ℕ) {A : Type 0} (o : Read A) → Refusals Q o → Refusals Q (refuseOr (typeFault s) o)
+    unfolding typeFault
+    type-numbers s o p = go (ltb (length s) 9) (ltZ (intAt s 5) (intAt s 1))
+      where
+        go : (a b : Bool) → Refusals Q (refuseOr (cond a 3 (cond b 6 0)) o)
+        go true b = row .r3
+        go false true = row .r6
+        go false false = p
+
+    heads-numbers : (s : List ℕ) → Refusals Q (headsHere fam s)
+    unfolding headsHere lengthHere typeHere andThen
+    heads-numbers s = go (lengthHere noHeads s) (read-either (eqb (kindOf s) 48) _ _ (bounds-numbers fam least greatest row s _ tt) tt)
+      where
+        go : (o : Read Heads) → Refusals Q o → Refusals Q (andThen o (typeHere fam))
+        go (refuse r) x = x
+        go (got h s′) x = read-either (hasTypes fam && eqb (kindOf s′) 49) _ _ (type-numbers s′ _ tt) tt
+
+    whole-numbers : Q 9 → (s : List ℕ) → Refusals Q (templateHere fam s)
+    unfolding templateHere andThen
+    whole-numbers r9 s = go (headsHere fam s) (heads-numbers s)
+      where
+        go : (o : Read Heads) → Refusals Q o → Refusals Q (andThen o (λ h. bodyHere (leavesIn fam (h .lower) (h .upper)) h))
+        go (refuse r) x = x
+        go (got h s′) x = body-numbers fam (h .lower) (h .upper) row r9 h s′
 
 -- ---- a whole input: 2 for over 4,096 bytes, 10 for bytes left
 
@@ -275,15 +307,15 @@ pub record TableRow (fam : Family) (s : List ℕ) (r : ℕ) : Type 0 where
   pub long : r ≡ 2 → 4096 < length s
 
 row-of : (fam : Family) (r : ℕ) → 2 ≤ r → r ≤ 10 → RowOf fam r
-row-of Family.Integers r p q = (p, q)
+row-of Family.Integers r p q = inl (p, q)
 row-of Family.Floats r p q = inl (p, q)
 
 table-row : (fam : Family) (s : List ℕ) (r : ℕ) → 3 ≤ r → r ≤ 10 → TableRow fam s r
 table-row fam s r p q = record { row = row-of fam r (omega arith) q; long = λ e. absurd (omega arith) }
 
-nan-row : (fam : Family) (s : List ℕ) → NanRow fam (TableRow fam s)
-nan-row Family.Integers s = tt
-nan-row Family.Floats s = record { row = inr refl; long = λ e. absurd (omega arith) }
+own-row : (fam : Family) (s : List ℕ) → OwnRow fam (TableRow fam s)
+own-row Family.Integers s = record { row = inr refl; long = λ e. absurd (omega arith) }
+own-row Family.Floats s = record { row = inr refl; long = λ e. absurd (omega arith) }
 
 table-rows : (fam : Family) (s : List ℕ) → Row fam (TableRow fam s)
 table-rows fam s = record {
@@ -293,35 +325,35 @@ table-rows fam s = record {
   r6 = table-row fam s 6 (omega arith) (omega arith);
   r7 = table-row fam s 7 (omega arith) (omega arith);
   r8 = table-row fam s 8 (omega arith) (omega arith);
-  r14 = nan-row fam s;
+  own = own-row fam s;
 }
 
 too-long : (fam : Family) (s : List ℕ) → 4096 < length s → TableRow fam s 2
 too-long fam s h = record { row = row-of fam 2 (omega arith) (omega arith); long = λ e. h }
 
-pub template-row : (fam : Family) (s : List ℕ) (r : ℕ) → readTemplate (leavesOf fam) s ≡ refuse r → TableRow fam s r
+pub template-row : (fam : Family) (s : List ℕ) (r : ℕ) → readTemplate fam s ≡ refuse r → TableRow fam s r
 unfolding readTemplate
 template-row fam s r e =
-    refused-so (TableRow fam s) (readTemplate (leavesOf fam) s) r
-    (whole (TableRow fam s) s (templateHere (leavesOf fam) s) (too-long fam s) (table-row fam s 10 (omega arith) (omega arith))
+    refused-so (TableRow fam s) (readTemplate fam s) r
+    (whole (TableRow fam s) s (templateHere fam s) (too-long fam s) (table-row fam s 10 (omega arith) (omega arith))
     (whole-numbers (TableRow fam s) fam (table-rows fam s) (table-row fam s 9 (omega arith) (omega arith)) s)) e
 
-element-numbers : (Q : ℕ → Type 0) (s : List ℕ) → Row Family.Integers Q → (4096 < length s → Q 2) → Q 10 → Refusals Q (readElement leafHead s)
+element-numbers : (Q : ℕ → Type 0) (lo hi : ℤ) (s : List ℕ) → Row Family.Integers Q → (4096 < length s → Q 2) → Q 10 → Refusals Q (readElement (typedHead lo hi) s)
 unfolding readElement
-element-numbers Q s row p2 p10 = whole Q s (uncounted (outermost leafHead s)) p2 p10 (uncounted-numbers Q (outermost leafHead s) (elem-numbers Q Family.Integers row 8 0 s))
+element-numbers Q lo hi s row p2 p10 = whole Q s (uncounted (outermost (typedHead lo hi) s)) p2 p10 (uncounted-numbers Q (outermost (typedHead lo hi) s) (elem-numbers Q Family.Integers lo hi row 8 0 s))
 
-pub element-row : (s : List ℕ) (r : ℕ) → readElement leafHead s ≡ refuse r → TableRow Family.Integers s r
-element-row s r e =
-    refused-so (TableRow Family.Integers s) (readElement leafHead s) r
-    (element-numbers (TableRow Family.Integers s) s (table-rows Family.Integers s) (too-long Family.Integers s) (table-row Family.Integers s 10 (omega arith) (omega arith))) e
+pub element-row : (lo hi : ℤ) (s : List ℕ) (r : ℕ) → readElement (typedHead lo hi) s ≡ refuse r → TableRow Family.Integers s r
+element-row lo hi s r e =
+    refused-so (TableRow Family.Integers s) (readElement (typedHead lo hi) s) r
+    (element-numbers (TableRow Family.Integers s) lo hi s (table-rows Family.Integers s) (too-long Family.Integers s) (table-row Family.Integers s 10 (omega arith) (omega arith))) e
 
 -- row 9 is found only at a body: no record of an element template has it
 not-nine : Row Family.Integers (λ r. r ≡ 9 → ⊥)
-not-nine = record { r3 = λ e. omega arith; r4 = λ e. omega arith; r5 = λ e. omega arith; r6 = λ e. omega arith; r7 = λ e. omega arith; r8 = λ e. omega arith; r14 = tt }
+not-nine = record { r3 = λ e. omega arith; r4 = λ e. omega arith; r5 = λ e. omega arith; r6 = λ e. omega arith; r7 = λ e. omega arith; r8 = λ e. omega arith; own = λ e. omega arith }
 
-pub element-not-nine : (s : List ℕ) (r : ℕ) → readElement leafHead s ≡ refuse r → r ≡ 9 → ⊥
-element-not-nine s r e =
-    refused-so (λ r. r ≡ 9 → ⊥) (readElement leafHead s) r (element-numbers (λ r. r ≡ 9 → ⊥) s not-nine (λ _ z. omega arith) (λ z. omega arith)) e
+pub element-not-nine : (lo hi : ℤ) (s : List ℕ) (r : ℕ) → readElement (typedHead lo hi) s ≡ refuse r → r ≡ 9 → ⊥
+element-not-nine lo hi s r e =
+    refused-so (λ r. r ≡ 9 → ⊥) (readElement (typedHead lo hi) s) r (element-numbers (λ r. r ≡ 9 → ⊥) lo hi s not-nine (λ _ z. omega arith) (λ z. omega arith)) e
 
 -- an input is refused by a number above 0, or read to its end
 pub data Cases {A : Type 0} (o : Read A) : Type 0 where
@@ -338,17 +370,17 @@ cases-of s o h = go (ltb 4096 (length s)) o h
     go false (got a []) h = isRead a refl
     go false (got a (x ∷ t)) h = isRefused 10 refl (omega arith)
 
-nan-above : (fam : Family) → NanRow fam (λ r. 0 < r)
-nan-above Family.Integers = tt
-nan-above Family.Floats = omega arith
+own-above : (fam : Family) → OwnRow fam (λ r. 0 < r)
+own-above Family.Integers = omega arith
+own-above Family.Floats = omega arith
 
 above-zero : (fam : Family) → Row fam (λ r. 0 < r)
-above-zero fam = record { r3 = omega arith; r4 = omega arith; r5 = omega arith; r6 = omega arith; r7 = omega arith; r8 = omega arith; r14 = nan-above fam }
+above-zero fam = record { r3 = omega arith; r4 = omega arith; r5 = omega arith; r6 = omega arith; r7 = omega arith; r8 = omega arith; own = own-above fam }
 
-pub read-cases : (fam : Family) (s : List ℕ) → Cases (readTemplate (leavesOf fam) s)
+pub read-cases : (fam : Family) (s : List ℕ) → Cases (readTemplate fam s)
 unfolding readTemplate
-read-cases fam s = cases-of s (templateHere (leavesOf fam) s) (whole-numbers (λ r. 0 < r) fam (above-zero fam) (omega arith) s)
+read-cases fam s = cases-of s (templateHere fam s) (whole-numbers (λ r. 0 < r) fam (above-zero fam) (omega arith) s)
 
-pub element-cases : (s : List ℕ) → Cases (readElement leafHead s)
+pub element-cases : (lo hi : ℤ) (s : List ℕ) → Cases (readElement (typedHead lo hi) s)
 unfolding readElement
-element-cases s = cases-of s (uncounted (outermost leafHead s)) (uncounted-numbers (λ r. 0 < r) (outermost leafHead s) (elem-numbers (λ r. 0 < r) Family.Integers (above-zero Family.Integers) 8 0 s))
+element-cases lo hi s = cases-of s (uncounted (outermost (typedHead lo hi) s)) (uncounted-numbers (λ r. 0 < r) (outermost (typedHead lo hi) s) (elem-numbers (λ r. 0 < r) Family.Integers lo hi (above-zero Family.Integers) 8 0 s))

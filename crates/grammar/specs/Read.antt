@@ -6,6 +6,7 @@
 -- ended o   == o, or 10 where bytes are left
 -- limited s o == o, or 2 where s is over 4,096 bytes
 -- mapRead f o == o with f of what was read
+-- andThen o f == o, then what f reads after it
 -- Assumes nothing: these are definitions.
 use Prim.Native.Nat.{ℕ, zero, suc}
 use mathlib.Core.List.{List, [], _∷_}
@@ -39,3 +40,7 @@ limited s o = orRefuse (ltb 4096 (length s)) 2 o
 unfoldable pub mapRead : {A B : Type 0} → (A → B) → Read A → Read B
 mapRead f (refuse r) = refuse r
 mapRead f (got a s) = got (f a) s
+
+unfoldable pub andThen : {A B : Type 0} → Read A → (A → List ℕ → Read B) → Read B
+andThen (refuse r) f = refuse r
+andThen (got a s) f = f a s

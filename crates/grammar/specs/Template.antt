@@ -4,13 +4,21 @@
 -- Item L      == an item of a record of: an element template, a 20, a permutation
 -- Body L      == record of, set of, superset, subset
 -- Length      == the length attribute: none, or its min and max
--- Template L  == a length attribute or none, and a body
+-- Heads       == what may stand before a body: the length attribute, and the element type by its lower and its upper bound
+-- noHeads     == what holds where nothing does: any length, and all 32-bit integers
+-- InOrder h   <-> the bounds of the type are 32-bit integers, the lower one not above the upper one
+-- Template L  == its heads, and a body
 -- membersOf b == the members of b, in the order of their numbers: those inside permutations in place
 -- membersOfGroup g, membersOfItem i, membersOfItems is == the same of a group, of an item, of several items
 -- Infinity as an upper bound is 255, as in the bytes: no list is that long.
 -- Assumes nothing: these are definitions.
+use mathlib.Core.Path.{_≡_}
+use mathlib.Core.Bool.{false}
 use Prim.Native.Nat.{ℕ}
+use lib.IntN.{ℤ}
 use mathlib.Core.List.{List, [], _∷_, _++_}
+use lib.Signed.{ltZ}
+use Rattle.integers.specs.Integer.{Word, least, greatest}
 use Rattle.grammar.specs.Element.{Elem}
 
 pub data Star : Type 0 where
@@ -35,8 +43,19 @@ pub data Length : Type 0 where
   anyLength : Length
   between : ℕ → ℕ → Length
 
+pub record Heads : Type 0 where
+  pub length : Length
+  pub lower : ℤ
+  pub upper : ℤ
+
+abbrev pub noHeads : Heads
+noHeads = record { length = anyLength; lower = least; upper = greatest }
+
+abbrev pub InOrder : Heads → Type 0
+InOrder h = Word (h .lower) × Word (h .upper) × (ltZ (h .upper) (h .lower) ≡ false)
+
 pub data Template (L : Type 0) : Type 0 where
-  template : Length → Body L → Template L
+  template : Heads → Body L → Template L
 
 unfoldable pub membersOfGroup : {L : Type 0} → Group L → List (Elem L)
 membersOfGroup (grouped es s) = es

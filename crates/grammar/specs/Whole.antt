@@ -13,10 +13,13 @@
 -- item m s        == the item of a record of at the front of s, with m members before it
 -- contents kind n s == what follows the header of a body of this kind with n items
 -- clashes a kind n == row 9: superset with length min below n, or subset with length max above n
--- bodyHere a s    == the body at the front of s, after the length attribute a
--- templateHere s  == the template at the front of s
--- readTemplate leafHead s == s as a whole template
--- Each reader takes the reader leafHead of the leaves. At one record the tests stand in the order of docs/RULES.md, "Numbers given back":
+-- bodyHere h s    == the body at the front of s, after the heads h
+-- lengthHere h s  == the heads h with the length attribute at the front of s, or h where none stands there
+-- typeHere f h s  == the heads h with the element type at the front of s, or h where none stands there
+-- headsHere f s   == the heads at the front of s, in their order: a head that comes too late, or twice, stands where a body is due
+-- templateHere f s == the template of the family f at the front of s
+-- readTemplate f s == s as a whole template
+-- What stands in a body is read by the reader leafHead of the leaves. At one record the tests stand in the order of docs/RULES.md, "Numbers given back":
 -- 3 for a missing kind, 4, 3 for a short body, 5, 6, 7, 8, 9.
 -- Assumes nothing: these are definitions.
 use Prim.Native.Nat.{ℕ, zero, suc, _+_}
@@ -25,9 +28,12 @@ use mathlib.Core.Bool.{Bool, true, false, _||_, _&&_, cond}
 use lib.ListN.{length, getD, drop}
 use lib.Dec.{ltb, eqb}
 use Rattle.grammar.specs.Element.{Elem}
-use Rattle.grammar.specs.Template.{Star, noStar, star, Group, grouped, Item, one, spares, permutation, Body, recordOf, setOf, superset, subset, Length, anyLength, between, Template, template, membersOfGroup, membersOfItem}
-use Rattle.grammar.specs.Record.{Head, fault, leafHere, group, kindOf, outside, countFault, boundsFault, head}
-use Rattle.grammar.specs.Read.{Read, refuse, got, orRefuse, refuseOr, ended, limited, mapRead}
+use Rattle.format.specs.declared.Family.{Family}
+use Rattle.integers.specs.Integer.{intAt}
+use Rattle.grammar.specs.Family.{LeafOf, hasTypes, leavesIn}
+use Rattle.grammar.specs.Template.{Star, noStar, star, Group, grouped, Item, one, spares, permutation, Body, recordOf, setOf, superset, subset, Length, anyLength, between, Heads, noHeads, Template, template, membersOfGroup, membersOfItem}
+use Rattle.grammar.specs.Record.{Head, fault, leafHere, group, kindOf, outside, countFault, boundsFault, typeFault, head}
+use Rattle.grammar.specs.Read.{Read, refuse, got, orRefuse, refuseOr, ended, limited, mapRead, andThen}
 use Rattle.grammar.specs.Reading.{uncounted, outermost}
 
 abbrev pub hasStar : Star → Bool
@@ -113,19 +119,32 @@ module _ {L : Type 0} (leafHead : List ℕ → Head L) where
       (cond (eqb kind 0x12) (mapRead (λ g. superset (membersOfGroup g)) (members false n 0 noStar s))
       (mapRead (λ g. subset (membersOfGroup g)) (members false n 0 noStar s))))
 
-  unfoldable pub bodyHere : Length → List ℕ → Read (Template L)
-  bodyHere a s =
+  unfoldable pub bodyHere : Heads → List ℕ → Read (Template L)
+  bodyHere h s =
       orRefuse (eqb (length s) 0) 3
       (orRefuse (outside 0x10 0x13 (kindOf s)) 4
       (refuseOr (countFault (fewest (kindOf s)) 32 s)
-      (orRefuse (clashes a (kindOf s) (getD s 1 0)) 9
-      (mapRead (template a) (contents (kindOf s) (getD s 1 0) (drop 2 s))))))
+      (orRefuse (clashes (h .length) (kindOf s) (getD s 1 0)) 9
+      (mapRead (template h) (contents (kindOf s) (getD s 1 0) (drop 2 s))))))
 
-  unfoldable pub templateHere : List ℕ → Read (Template L)
-  templateHere s =
-      cond (eqb (kindOf s) 0x30)
-      (refuseOr (boundsFault s) (bodyHere (between (getD s 1 0) (getD s 2 0)) (drop 3 s)))
-      (bodyHere anyLength s)
+unfoldable pub lengthHere : Heads → List ℕ → Read Heads
+lengthHere h s =
+    cond (eqb (kindOf s) 0x30)
+    (refuseOr (boundsFault s) (got (record { length = between (getD s 1 0) (getD s 2 0); lower = h .lower; upper = h .upper }) (drop 3 s)))
+    (got h s)
 
-  unfoldable pub readTemplate : List ℕ → Read (Template L)
-  readTemplate s = limited s (ended (templateHere s))
+-- "lower and upper bound of the element type, after a 30 if there is one; without it, all 32-bit integers"
+unfoldable pub typeHere : Family → Heads → List ℕ → Read Heads
+typeHere f h s =
+    cond (hasTypes f && eqb (kindOf s) 0x31)
+    (refuseOr (typeFault s) (got (record { length = h .length; lower = intAt s 1; upper = intAt s 5 }) (drop 9 s)))
+    (got h s)
+
+unfoldable pub headsHere : Family → List ℕ → Read Heads
+headsHere f s = andThen (lengthHere noHeads s) (typeHere f)
+
+unfoldable pub templateHere : (f : Family) → List ℕ → Read (Template (LeafOf f))
+templateHere f s = andThen (headsHere f s) (λ h. bodyHere (leavesIn f (h .lower) (h .upper)) h)
+
+unfoldable pub readTemplate : (f : Family) → List ℕ → Read (Template (LeafOf f))
+readTemplate f s = limited s (ended (templateHere f s))
