@@ -9,7 +9,9 @@ use borrow.Author.Tests.{lt-ltb, le-ltb}
 use lib.ListN.{length, getD, drop}
 use Rattle.grammar.specs.Element.{Elem, leaf, oneOf, noneOf, Elems, none, more}
 use Rattle.format.specs.declared.Family.{Family}
-use Rattle.grammar.specs.Family.{LeafOf, leavesOf}
+use Rattle.grammar.specs.Family.{LeafOf}
+use Rattle.sorts.specs.declared.Sort.{Sort}
+use Rattle.sorts.specs.Sorts.{familyOf, leavesFor}
 use Rattle.grammar.specs.Record.{Head, fault, leafHere, group, head}
 use Rattle.grammar.specs.Read.{Read, refuse, got}
 use Rattle.grammar.specs.Reading.{Counted, counted, putFirst, thenMore, many, closed, tooDeep, opened, elem, outermost}
@@ -107,44 +109,44 @@ closed-noted t true o k code next (noted (counted es j) q z e i) = noted (counte
 
 -- ---- one element template after the place and the leaves `from`
 
-module _ (fam : Family) (t : List ℕ) (left from end : ℕ) (start : From t from) where
-  pub one-fault : HeadAt t (placeIn from) (head (leavesOf fam) (drop (placeIn from) t)) end → 16777215 < end → ScannedOne fam t left from end
+module _ (sort : Sort) (t : List ℕ) (left from end : ℕ) (start : From t from) where
+  pub one-fault : HeadAt t (placeIn from) (head (leavesFor sort) (drop (placeIn from) t)) end → 16777215 < end → ScannedOne sort t left from end
   one-fault h b =
-      let v = head-stops t (placeIn from) (head (leavesOf fam) (drop (placeIn from) t)) end (start .0 .1) h b in
-      stopped (elem-fault (leavesOf fam) left (countIn from) (drop (placeIn from) t) (faultIn end) (v .0)) (omega arith) (v .1)
+      let v = head-stops t (placeIn from) (head (leavesFor sort) (drop (placeIn from) t)) end (start .0 .1) h b in
+      stopped (elem-fault (leavesFor sort) left (countIn from) (drop (placeIn from) t) (faultIn end) (v .0)) (omega arith) (v .1)
 
   module _ (sound : end ≤ 16777215) where
-    pub one-deep : HeadAt t (placeIn from) (head (leavesOf fam) (drop (placeIn from) t)) end → (r : ℕ) → r ≡ 16777215 + 7 → left ≡ 0 → ScannedOne fam t left from r
+    pub one-deep : HeadAt t (placeIn from) (head (leavesFor sort) (drop (placeIn from) t)) end → (r : ℕ) → r ≡ 16777215 + 7 → left ≡ 0 → ScannedOne sort t left from r
     unfolding tooDeep
     one-deep (faulty q p s) r e z = absurd (omega arith)
     one-deep (aLeaf l q k a i) r e z =
         let f : _≡_ {A = ℕ} 7 (faultIn r) = omega arith in
-        stopped (deep-refused (leavesOf fam) left (countIn from) (drop (placeIn from) t) z ∙ ap tooDeep q ∙ ap refuse f) (omega arith) (omega arith)
+        stopped (deep-refused (leavesFor sort) left (countIn from) (drop (placeIn from) t) z ∙ ap tooDeep q ∙ ap refuse f) (omega arith) (omega arith)
     one-deep (aGroup c q k g i) r e z =
         let f : _≡_ {A = ℕ} 7 (faultIn r) = omega arith in
-        stopped (deep-refused (leavesOf fam) left (countIn from) (drop (placeIn from) t) z ∙ ap tooDeep q ∙ ap refuse f) (omega arith) (omega arith)
+        stopped (deep-refused (leavesFor sort) left (countIn from) (drop (placeIn from) t) z ∙ ap tooDeep q ∙ ap refuse f) (omega arith) (omega arith)
 
     module _ (level : 0 < left) where
       -- the members of a list or complement begin two bytes on
-      pub one-group : HeadAt t (placeIn from) (head (leavesOf fam) (drop (placeIn from) t)) end → groupKind (getD t (placeIn from) 0) ≡ true → (r : ℕ)
-          → ScannedAll fam t (left - 1) (getD t (placeIn from + 1) 0) (from + 2) r → ScannedOne fam t left from r
+      pub one-group : HeadAt t (placeIn from) (head (leavesFor sort) (drop (placeIn from) t)) end → groupKind (getD t (placeIn from) 0) ≡ true → (r : ℕ)
+          → ScannedAll sort t (left - 1) (getD t (placeIn from + 1) 0) (from + 2) r → ScannedOne sort t left from r
       one-group (faulty q p s) k r h = absurd (omega arith)
       one-group (aLeaf l q g a i) k r h = absurd (clash k g)
       one-group (aGroup c q g e i) k r h =
           let place : (from + 2) % 65536 ≡ end = omega (arith, start .0 .1) in
           let same : (from + 2) / 65536 ≡ from / 65536 = omega (arith, start .0 .1) in
-          let h₁ : Noted (λ (a : Counted (Elems (LeafOf fam))). leavesTo a ≡ countIn r) t (many (elem (leavesOf fam) (left - 1)) (getD t (placeIn from + 1) 0) (from / 65536) (drop end t)) (faultIn r) (placeIn r) = rw (place, same) at h in
-          rw (group-opens (leavesOf fam) left (countIn from) (drop (placeIn from) t) c (getD t (placeIn from + 1) 0) (drop end t) level q) (closed-noted t c _ (countIn r) (faultIn r) (placeIn r) h₁)
+          let h₁ : Noted (λ (a : Counted (Elems (LeafOf (familyOf sort)))). leavesTo a ≡ countIn r) t (many (elem (leavesFor sort) (left - 1)) (getD t (placeIn from + 1) 0) (from / 65536) (drop end t)) (faultIn r) (placeIn r) = rw (place, same) at h in
+          rw (group-opens (leavesFor sort) left (countIn from) (drop (placeIn from) t) c (getD t (placeIn from + 1) 0) (drop end t) level q) (closed-noted t c _ (countIn r) (faultIn r) (placeIn r) h₁)
 
       -- a 65th leaf, and any before it
-      pub one-over : HeadAt t (placeIn from) (head (leavesOf fam) (drop (placeIn from) t)) end → groupKind (getD t (placeIn from) 0) ≡ false → (r : ℕ) → r ≡ 16777215 + 8 → 63 < countIn from → ScannedOne fam t left from r
+      pub one-over : HeadAt t (placeIn from) (head (leavesFor sort) (drop (placeIn from) t)) end → groupKind (getD t (placeIn from) 0) ≡ false → (r : ℕ) → r ≡ 16777215 + 8 → 63 < countIn from → ScannedOne sort t left from r
       one-over (faulty q p s) k r e over = absurd (omega arith)
       one-over (aGroup c q g x i) k r e over = absurd (clash g k)
       one-over (aLeaf l q g a i) k r e over =
           let f : _≡_ {A = ℕ} 8 (faultIn r) = omega arith in
-          stopped (leaf-over (leavesOf fam) left (countIn from) (drop (placeIn from) t) l (drop end t) level over q ∙ ap refuse f) (omega arith) (omega arith)
+          stopped (leaf-over (leavesFor sort) left (countIn from) (drop (placeIn from) t) l (drop end t) level over q ∙ ap refuse f) (omega arith) (omega arith)
 
-      pub one-leaf : HeadAt t (placeIn from) (head (leavesOf fam) (drop (placeIn from) t)) end → groupKind (getD t (placeIn from) 0) ≡ false → (r : ℕ) → r ≡ from + 65536 + (end - placeIn from) → countIn from ≤ 63 → ScannedOne fam t left from r
+      pub one-leaf : HeadAt t (placeIn from) (head (leavesFor sort) (drop (placeIn from) t)) end → groupKind (getD t (placeIn from) 0) ≡ false → (r : ℕ) → r ≡ from + 65536 + (end - placeIn from) → countIn from ≤ 63 → ScannedOne sort t left from r
       unfolding leavesTo
       one-leaf (faulty q p s) k r e few = absurd (omega arith)
       one-leaf (aGroup c q g x i) k r e few = absurd (clash g k)
@@ -152,8 +154,8 @@ module _ (fam : Family) (t : List ℕ) (left from end : ℕ) (start : From t fro
           let place : r % 65536 ≡ end = omega (arith, start .0 .1) in
           let count : from / 65536 + 1 ≡ r / 65536 = omega (arith, start .0 .1) in
           let z : faultIn r ≡ 0 = omega (arith, start .0 .1) in
-          let o : elem (leavesOf fam) left (countIn from) (drop (placeIn from) t) ≡ got (counted (leaf l) (from / 65536 + 1)) (drop (placeIn r) t) =
-          leaf-counts (leavesOf fam) left (countIn from) (drop (placeIn from) t) l (drop end t) level few q ∙ ap (λ p. got (counted (leaf l) (from / 65536 + 1)) (drop p t)) (sym place) in
+          let o : elem (leavesFor sort) left (countIn from) (drop (placeIn from) t) ≡ got (counted (leaf l) (from / 65536 + 1)) (drop (placeIn r) t) =
+          leaf-counts (leavesFor sort) left (countIn from) (drop (placeIn from) t) l (drop end t) level few q ∙ ap (λ p. got (counted (leaf l) (from / 65536 + 1)) (drop p t)) (sym place) in
           noted (counted (leaf l) (from / 65536 + 1)) o z count (omega arith)
 
 -- ---- several, one after the other
@@ -163,39 +165,39 @@ unfolding putFirst leavesTo
 put-noted t e o k code next (stopped q h s) = stopped (ap (putFirst e) q) h s
 put-noted t e o k code next (noted (counted es j) q z v i) = noted (counted (more e es) j) (ap (putFirst e) q) z v i
 
-module _ (fam : Family) (t : List ℕ) (left : ℕ) where
+module _ (sort : Sort) (t : List ℕ) (left : ℕ) where
   -- what one makes of the place and leaves so far
-  one-next : (from s : ℕ) → ScannedOne fam t left from s → s ≤ 16777215 → (e : Elem (LeafOf fam)) × (elem (leavesOf fam) left (countIn from) (drop (placeIn from) t) ≡ got (counted e (countIn s)) (drop (placeIn s) t)) × (placeIn s ≤ length t)
+  one-next : (from s : ℕ) → ScannedOne sort t left from s → s ≤ 16777215 → (e : Elem (LeafOf (familyOf sort))) × (elem (leavesFor sort) left (countIn from) (drop (placeIn from) t) ≡ got (counted e (countIn s)) (drop (placeIn s) t)) × (placeIn s ≤ length t)
   unfolding leavesTo
   one-next from s (stopped q p b) l = absurd (omega arith)
   one-next from s (noted (counted e j) q z v i) l = (e, q ∙ ap (λ k. got (counted e k) (drop (placeIn s) t)) v, i)
 
-  pub next-fits : (from s : ℕ) → ScannedOne fam t left from s → s ≤ 16777215 → placeIn s ≤ length t
+  pub next-fits : (from s : ℕ) → ScannedOne sort t left from s → s ≤ 16777215 → placeIn s ≤ length t
   next-fits from s h l = one-next from s h l .2
 
-  pub all-step : (n from s r : ℕ) → 0 < n → ScannedOne fam t left from s → s ≤ 16777215 → ScannedAll fam t left (n - 1) s r → ScannedAll fam t left n from r
+  pub all-step : (n from s r : ℕ) → 0 < n → ScannedOne sort t left from s → s ≤ 16777215 → ScannedAll sort t left (n - 1) s r → ScannedAll sort t left n from r
   unfolding many thenMore
   all-step zero from s r b h l g = absurd (omega arith)
   all-step (suc n) from s r b h l g =
       let v = one-next from s h l in
       let down : suc n - 1 ≡ n = omega arith in
-      let g₁ : ScannedAll fam t left n s r = rw down at g in
+      let g₁ : ScannedAll sort t left n s r = rw down at g in
       rw (v .1) (put-noted t (v .0) _ (countIn r) (faultIn r) (placeIn r) g₁)
 
-  pub all-stop : (n from s : ℕ) → 0 < n → ScannedOne fam t left from s → 16777215 < s → ScannedAll fam t left n from s
+  pub all-stop : (n from s : ℕ) → 0 < n → ScannedOne sort t left from s → 16777215 < s → ScannedAll sort t left n from s
   unfolding many thenMore
   all-stop zero from s b h l = absurd (omega arith)
   all-stop (suc n) from s b h l =
       let v = noted-stopped _ _ _ _ _ h (omega arith) in
-      stopped (ap (λ o. thenMore o (many (elem (leavesOf fam) left) n)) (v .0)) (omega arith) (v .1)
+      stopped (ap (λ o. thenMore o (many (elem (leavesFor sort) left) n)) (v .0)) (omega arith) (v .1)
 
-  pub all-end : (n from : ℕ) → n ≡ 0 → From t from → ScannedAll fam t left n from from
+  pub all-end : (n from : ℕ) → n ≡ 0 → From t from → ScannedAll sort t left n from from
   unfolding many leavesTo
   all-end zero from e f = noted (counted none (countIn from)) refl (omega (arith, f .1)) refl (f .0 .0)
   all-end (suc n) from e f = absurd (omega arith)
 
   -- the last one gives what all of them give
-  pub all-last : (n from r : ℕ) → n ≡ 1 → From t from → ScannedOne fam t left from r → ScannedAll fam t left n from r
+  pub all-last : (n from r : ℕ) → n ≡ 1 → From t from → ScannedOne sort t left from r → ScannedAll sort t left n from r
   all-last n from r one f h =
       ⊎-elim
       (λ (l : 16777215 < r). all-stop n from r (omega arith) h l)
@@ -204,30 +206,30 @@ module _ (fam : Family) (t : List ℕ) (left : ℕ) where
 
 -- ---- an element template at depth 1, after its record
 
-module _ (fam : Family) (t : List ℕ) (at end : ℕ) (short : length t < 65536) where
-  pub head-ended : HeadAt t at (head (leavesOf fam) (drop at t)) end → 16777215 < end → Ended t (outermost (leavesOf fam) (drop at t)) end
+module _ (sort : Sort) (t : List ℕ) (at end : ℕ) (short : length t < 65536) where
+  pub head-ended : HeadAt t at (head (leavesFor sort) (drop at t)) end → 16777215 < end → Ended t (outermost (leavesFor sort) (drop at t)) end
   head-ended h b =
-      let v = head-stops t at (head (leavesOf fam) (drop at t)) end short h b in
-      stopped (elem-fault (leavesOf fam) 8 0 (drop at t) (faultIn end) (v .0)) (omega arith) (v .1)
+      let v = head-stops t at (head (leavesFor sort) (drop at t)) end short h b in
+      stopped (elem-fault (leavesFor sort) 8 0 (drop at t) (faultIn end) (v .0)) (omega arith) (v .1)
 
   module _ (sound : end ≤ 16777215) where
-    pub leaf-ended : HeadAt t at (head (leavesOf fam) (drop at t)) end → groupKind (getD t at 0) ≡ false → Ended t (outermost (leavesOf fam) (drop at t)) end
+    pub leaf-ended : HeadAt t at (head (leavesFor sort) (drop at t)) end → groupKind (getD t at 0) ≡ false → Ended t (outermost (leavesFor sort) (drop at t)) end
     leaf-ended (faulty q p s) k = absurd (omega arith)
     leaf-ended (aGroup c q g x i) k = absurd (clash g k)
-    leaf-ended (aLeaf l q g a i) k = noted _ (leaf-counts (leavesOf fam) 8 0 (drop at t) l (drop end t) (omega arith) (omega arith) q) (omega arith) tt i
+    leaf-ended (aLeaf l q g a i) k = noted _ (leaf-counts (leavesFor sort) 8 0 (drop at t) l (drop end t) (omega arith) (omega arith) q) (omega arith) tt i
 
-    module _ (r : ℕ) (held : ScannedAll fam t 7 (getD t (at + 1) 0) end r) where
-      outer : HeadAt t at (head (leavesOf fam) (drop at t)) end → groupKind (getD t at 0) ≡ true → Noted (λ (a : Counted (Elem (LeafOf fam))). leavesTo a ≡ countIn r) t (outermost (leavesOf fam) (drop at t)) (faultIn r) (placeIn r)
+    module _ (r : ℕ) (held : ScannedAll sort t 7 (getD t (at + 1) 0) end r) where
+      outer : HeadAt t at (head (leavesFor sort) (drop at t)) end → groupKind (getD t at 0) ≡ true → Noted (λ (a : Counted (Elem (LeafOf (familyOf sort)))). leavesTo a ≡ countIn r) t (outermost (leavesFor sort) (drop at t)) (faultIn r) (placeIn r)
       outer (faulty q p s) k = absurd (omega arith)
       outer (aLeaf l q g a i) k = absurd (clash k g)
       outer (aGroup c q g e i) k =
           let place : end % 65536 ≡ end = omega arith in
           let none-yet : end / 65536 ≡ 0 = omega arith in
-          let h₁ : Noted (λ (a : Counted (Elems (LeafOf fam))). leavesTo a ≡ countIn r) t (many (elem (leavesOf fam) 7) (getD t (at + 1) 0) 0 (drop end t)) (faultIn r) (placeIn r) = rw (place, none-yet) at held in
-          rw (group-opens (leavesOf fam) 8 0 (drop at t) c (getD t (at + 1) 0) (drop end t) (omega arith) q) (closed-noted t c _ (countIn r) (faultIn r) (placeIn r) h₁)
+          let h₁ : Noted (λ (a : Counted (Elems (LeafOf (familyOf sort)))). leavesTo a ≡ countIn r) t (many (elem (leavesFor sort) 7) (getD t (at + 1) 0) 0 (drop end t)) (faultIn r) (placeIn r) = rw (place, none-yet) at held in
+          rw (group-opens (leavesFor sort) 8 0 (drop at t) c (getD t (at + 1) 0) (drop end t) (omega arith) q) (closed-noted t c _ (countIn r) (faultIn r) (placeIn r) h₁)
 
-      pub group-stopped : HeadAt t at (head (leavesOf fam) (drop at t)) end → groupKind (getD t at 0) ≡ true → 16777215 < r → Ended t (outermost (leavesOf fam) (drop at t)) r
+      pub group-stopped : HeadAt t at (head (leavesFor sort) (drop at t)) end → groupKind (getD t at 0) ≡ true → 16777215 < r → Ended t (outermost (leavesFor sort) (drop at t)) r
       group-stopped h k b = let v = noted-stopped _ _ _ _ _ (outer h k) (omega arith) in stopped (v .0) (omega arith) (v .1)
 
-      pub group-ended : HeadAt t at (head (leavesOf fam) (drop at t)) end → groupKind (getD t at 0) ≡ true → r ≤ 16777215 → Ended t (outermost (leavesOf fam) (drop at t)) (r % 65536)
+      pub group-ended : HeadAt t at (head (leavesFor sort) (drop at t)) end → groupKind (getD t at 0) ≡ true → r ≤ 16777215 → Ended t (outermost (leavesFor sort) (drop at t)) (r % 65536)
       group-ended h k b = let v = noted-read _ _ _ _ _ (outer h k) (omega arith) in noted (v .0) (v .1) (omega arith) tt (v .3)

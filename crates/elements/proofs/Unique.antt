@@ -16,8 +16,8 @@ use Rattle.elements.proofs.count_fault.Reads as count-fault
 use Rattle.elements.proofs.count_fault.Kinds as count-fault-kinds
 use Rattle.elements.proofs.integer_head_end.Reads as integer-head-end
 use Rattle.elements.proofs.integer_head_end.Kinds as integer-head-end-kinds
-use Rattle.elements.proofs.float_head_end.Reads as float-head-end
-use Rattle.elements.proofs.float_head_end.Kinds as float-head-end-kinds
+use Rattle.elements.proofs.other_head_end.Reads as other-head-end
+use Rattle.elements.proofs.other_head_end.Kinds as other-head-end-kinds
 use Rattle.elements.proofs.rest_end.Reads as rest-end
 use Rattle.elements.proofs.rest_end.Kinds as rest-end-kinds
 use Rattle.elements.proofs.scan_element.Reads as scan-element
@@ -62,9 +62,9 @@ pub integer-head-end-unique : (κs : Lfts 1) (a : Dens κs integer-head-end-kind
     → integer-head-end.Post κs a r s → integer-head-end.Post κs a r′ s′ → r ≡ r′
 integer-head-end-unique κs a r r′ s s′ p q = head-same _ _ _ r r′ p q
 
-pub float-head-end-unique : (κs : Lfts 1) (a : Dens κs float-head-end-kinds.ps) (r r′ : resT float-head-end-kinds.r κs .Denot) (s s′ : AtExit (endedOf 1 float-head-end-kinds.ps float-head-end-kinds.r) κs)
-    → float-head-end.Post κs a r s → float-head-end.Post κs a r′ s′ → r ≡ r′
-float-head-end-unique κs a r r′ s s′ p q = head-same _ _ _ r r′ p q
+pub other-head-end-unique : (κs : Lfts 1) (a : Dens κs other-head-end-kinds.ps) (r r′ : resT other-head-end-kinds.r κs .Denot) (s s′ : AtExit (endedOf 1 other-head-end-kinds.ps other-head-end-kinds.r) κs)
+    → other-head-end.Post κs a r s → other-head-end.Post κs a r′ s′ → r ≡ r′
+other-head-end-unique κs a r r′ s s′ p q = head-same _ _ _ r r′ p q
 
 pub rest-end-unique : (κs : Lfts 1) (a : Dens κs rest-end-kinds.ps) (r r′ : resT rest-end-kinds.r κs .Denot) (s s′ : AtExit (endedOf 1 rest-end-kinds.ps rest-end-kinds.r) κs)
     → rest-end.Post κs a r s → rest-end.Post κs a r′ s′ → r ≡ r′

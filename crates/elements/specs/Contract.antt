@@ -9,8 +9,8 @@
 -- Noted Tells t o code next <-> what a scan says of the reading o: the refusal `code`, never 0; or `code` 0, `next` the place after what
 --                      was read, and what Tells says of it
 -- Ended t o r        <-> r says the refusal of the reading o, or the place after what was read
--- ScannedOne f t left from r <-> r says this, and the leaves so far, of the element template of the family f after `from`, with so many depths left
--- ScannedAll f t left n from r <-> this of n of them
+-- ScannedOne k t left from r <-> r says this, and the leaves so far, of the element template of the sort k after `from`, with so many depths left
+-- ScannedAll k t left n from r <-> this of n of them
 -- Answered o r       <-> r is the number for the whole reading o: the refusal's, never 0; or 0 where o is accepted
 -- leavesTo c         == the leaves so far
 -- Assumes nothing: these are definitions.
@@ -22,8 +22,9 @@ use lib.Dec.{eqb}
 use lib.ListN.{length, getD, drop}
 use Rattle.grammar.specs.Element.{Elem, Elems}
 use Rattle.grammar.specs.Record.{Head, fault, leafHere, group}
-use Rattle.format.specs.declared.Family.{Family}
-use Rattle.grammar.specs.Family.{LeafOf, leavesOf}
+use Rattle.grammar.specs.Family.{LeafOf}
+use Rattle.sorts.specs.declared.Sort.{Sort}
+use Rattle.sorts.specs.Sorts.{familyOf, leavesFor}
 use Rattle.grammar.specs.Read.{Read, refuse, got}
 use Rattle.grammar.specs.Reading.{Counted, counted, many, elem}
 
@@ -64,8 +65,8 @@ pub data Answered {A : Type 0} (o : Read A) (r : ℕ) : Type 0 where
 unfoldable pub leavesTo : {A : Type 0} → Counted A → ℕ
 leavesTo (counted a k) = k
 
-abbrev pub ScannedOne : Family → List ℕ → ℕ → ℕ → ℕ → Type 0
-ScannedOne f t left from r = Noted (λ (c : Counted (Elem (LeafOf f))). leavesTo c ≡ countIn r) t (elem (leavesOf f) left (countIn from) (drop (placeIn from) t)) (faultIn r) (placeIn r)
+abbrev pub ScannedOne : Sort → List ℕ → ℕ → ℕ → ℕ → Type 0
+ScannedOne k t left from r = Noted (λ (c : Counted (Elem (LeafOf (familyOf k)))). leavesTo c ≡ countIn r) t (elem (leavesFor k) left (countIn from) (drop (placeIn from) t)) (faultIn r) (placeIn r)
 
-abbrev pub ScannedAll : Family → List ℕ → ℕ → ℕ → ℕ → ℕ → Type 0
-ScannedAll f t left n from r = Noted (λ (c : Counted (Elems (LeafOf f))). leavesTo c ≡ countIn r) t (many (elem (leavesOf f) left) n (countIn from) (drop (placeIn from) t)) (faultIn r) (placeIn r)
+abbrev pub ScannedAll : Sort → List ℕ → ℕ → ℕ → ℕ → ℕ → Type 0
+ScannedAll k t left n from r = Noted (λ (c : Counted (Elems (LeafOf (familyOf k)))). leavesTo c ≡ countIn r) t (many (elem (leavesFor k) left) n (countIn from) (drop (placeIn from) t)) (faultIn r) (placeIn r)

@@ -5,11 +5,12 @@ ghost use mathlib.Core.Bool.{Bool, true};
 ghost use Prim.Native.Nat.{_+_, _<_, _≤_};
 ghost use lib.ListN.{length, getD, drop};
 ghost use Rattle.format.specs.declared.Family.{Family};
-ghost use Rattle.grammar.specs.Leaf.{leafHead};
+ghost use Rattle.grammar.specs.Leaf.{leafHead, typedHead};
 ghost use Rattle.grammar.specs.FloatLeaf.{floatHead};
-ghost use Rattle.grammar.specs.Family.{LeafOf, leavesOf};
+ghost use Rattle.grammar.specs.Family.{LeafOf};
 ghost use Rattle.grammar.specs.Record.{countFault, groupHead, head};
 ghost use Rattle.grammar.specs.Reading.{outermost, readElement};
+ghost use Rattle.sorts.specs.Sorts.{lowerOf, upperOf, leavesFor};
 ghost use Rattle.elements.specs.Contract.{Place, groupKind, HeadAt, From, ScannedAll, Ended, Answered};
 use floats::Bounds;
 use floats::bounds_fault;
@@ -29,9 +30,9 @@ use format::FLOAT;
 use format::FLOAT_RANGE;
 use format::FLOAT_RANGE_SIZE;
 use format::FLOAT_SIZE;
-use format::Family;
 use format::GROUP_MOST;
 use format::LAST_LEAF;
+use format::LEAF_OUTSIDE;
 use format::LEFT_OVER;
 use format::LIST;
 use format::MISSING;
@@ -45,11 +46,11 @@ use format::TOO_DEEP;
 use format::TOO_LONG;
 use format::TOO_MANY;
 use integers::int_at;
-
-// What the leaves of a template are.
-pub struct Sort {
-    pub family: Family,
-}
+use leaves::bounds_at;
+use sorts::FLOATS;
+use sorts::Sort;
+use sorts::WHOLE;
+use sorts::reaches;
 
 // The answer that says this refusal.
 pub fn refusal(code: u8) -> usize
@@ -173,7 +174,7 @@ pub fn integer_head_end(t: &[u8], at: usize) -> usize
 }
 
 // The same of the float family.
-pub fn float_head_end(t: &[u8], at: usize) -> usize
+fn float_head_end(t: &[u8], at: usize) -> usize
     requires { ⌜ Place (now t) at ⌝ }
     ensures { λ r. ⌜ HeadAt (now (t .entry)) at (head floatHead (drop at (now (t .entry)))) r ⌝ }
 {
@@ -186,32 +187,62 @@ pub fn float_head_end(t: &[u8], at: usize) -> usize
     float_end(t, at)
 }
 
+// The place after the record of an element template of integers of a type, or its own fault. What a leaf says is read once more only here.
+fn typed_head_end(t: &[u8], at: usize, sort: Sort) -> usize
+    requires { ⌜ Place (now t) at ⌝ }
+    ensures { λ r. ⌜ HeadAt (now (t .entry)) at (head (typedHead (lowerOf sort) (upperOf sort)) (drop at (now (t .entry)))) r ⌝ }
+{
+    let end = integer_head_end(t, at);
+    if FAULT < end {
+        return end;
+    }
+    let kind = t[at];
+    if ANY <= kind {
+        return end;
+    }
+    let l = bounds_at(t, at);
+    if reaches(sort, l.lower, l.upper) {
+        return refusal(LEAF_OUTSIDE);
+    }
+    end
+}
+
+// The place after the record of an element template at `at`, or its own fault, where the leaves are not all the integers.
+pub fn other_head_end(t: &[u8], at: usize, sort: Sort) -> usize
+    requires { ⌜ Place (now t) at ⌝ }
+    ensures { λ r. ⌜ HeadAt (now (t .entry)) at (head (leavesFor sort) (drop at (now (t .entry)))) r ⌝ }
+{
+    if sort.word == FLOATS {
+        return float_head_end(t, at);
+    }
+    typed_head_end(t, at, sort)
+}
+
 // The same, lent the bytes on its own: what is lent to a function that is called stands in memory, and the way of the integers
 // keeps the bytes at hand.
-fn float_record_end(t: &[u8], at: usize) -> usize
+fn other_record_end(t: &[u8], at: usize, sort: Sort) -> usize
     requires { ⌜ Place (now t) at ⌝ }
-    ensures { λ r. ⌜ HeadAt (now (t .entry)) at (head floatHead (drop at (now (t .entry)))) r ⌝ }
+    ensures { λ r. ⌜ HeadAt (now (t .entry)) at (head (leavesFor sort) (drop at (now (t .entry)))) r ⌝ }
 {
-    float_head_end(t, at)
+    other_head_end(t, at, sort)
 }
 
 // The place after the element template's record at `at`, or its own fault.
 fn head_end(t: &[u8], at: usize, sort: Sort) -> usize
     requires { ⌜ Place (now t) at ⌝ }
-    ensures { λ r. ⌜ HeadAt (now (t .entry)) at (head (leavesOf (sort .family)) (drop at (now (t .entry)))) r ⌝ }
+    ensures { λ r. ⌜ HeadAt (now (t .entry)) at (head (leavesFor sort) (drop at (now (t .entry)))) r ⌝ }
 {
-    let family = sort.family;
-    match family {
-        Family::Integers => integer_head_end(t, at),
-        Family::Floats => float_record_end(t, at),
+    if sort.word == WHOLE {
+        return integer_head_end(t, at);
     }
+    other_record_end(t, at, sort)
 }
 
 // n element templates after the place and the leaves `from`, with so many depths left. A leaf is read here; what has members is a call, but for the
 // last one: its members are simply next, a depth further down.
 fn scan_all(t: &[u8], from: usize, n: usize, left: usize, sort: Sort) -> usize
     requires { ⌜ From (now t) from ⌝ }
-    ensures { λ r. ⌜ ScannedAll (sort .family) (now (t .entry)) left n from r ⌝ }
+    ensures { λ r. ⌜ ScannedAll sort (now (t .entry)) left n from r ⌝ }
 {
     let mut s = from;
     let mut more = n;
@@ -251,8 +282,8 @@ fn scan_all(t: &[u8], from: usize, n: usize, left: usize, sort: Sort) -> usize
 
 // The place after the element template at `at`, whose record ends at `end`, or the refusal of what it holds.
 pub fn rest_end(t: &[u8], at: usize, end: usize, sort: Sort) -> usize
-    requires { ⌜ Place (now t) at × HeadAt (now t) at (head (leavesOf (sort .family)) (drop at (now t))) end × (end ≤ 16777215) ⌝ }
-    ensures { λ r. ⌜ Ended (now (t .entry)) (outermost (leavesOf (sort .family)) (drop at (now (t .entry)))) r ⌝ }
+    requires { ⌜ Place (now t) at × HeadAt (now t) at (head (leavesFor sort) (drop at (now t))) end × (end ≤ 16777215) ⌝ }
+    ensures { λ r. ⌜ Ended (now (t .entry)) (outermost (leavesFor sort) (drop at (now (t .entry)))) r ⌝ }
 {
     if !is_group(t[at]) {
         return end;
@@ -264,25 +295,18 @@ pub fn rest_end(t: &[u8], at: usize, end: usize, sort: Sort) -> usize
     s % ONE_MORE
 }
 
-// The number for t as one element template of the integer family by itself.
-pub fn scan_element(t: &[u8]) -> u8
-    ensures { λ r. ⌜ Answered (readElement leafHead (now (t .entry))) r ⌝ }
+// The number for t as one element template by itself.
+pub fn scan_element(t: &[u8], sort: Sort) -> u8
+    ensures { λ r. ⌜ Answered (readElement (leavesFor sort) (now (t .entry))) r ⌝ }
 {
     if TEMPLATE_MOST < t.len() {
         return TOO_LONG;
     }
-    let head = integer_head_end(t, 0);
+    let head = head_end(t, 0, sort);
     if FAULT < head {
         return (head - FAULT) as u8;
     }
-    let end = rest_end(
-        t,
-        0,
-        head,
-        Sort {
-            family: Family::Integers,
-        },
-    );
+    let end = rest_end(t, 0, head, sort);
     if FAULT < end {
         return (end - FAULT) as u8;
     }

@@ -4,12 +4,13 @@ use mathlib.Core.Bool.{true, false}
 use mathlib.Core.List.{List}
 use Prim.Native.Nat.{ℕ, _+_, _≤_, _<_}
 use native.Mathlib.Omega.{arith}
+use lib.IntN.{ℤ}
 use lib.ListN.{length, getD, drop}
 use Rattle.grammar.specs.Element.{Elem}
 use Rattle.grammar.specs.Template.{Star, noStar, star, Group, grouped, Item, one, spares, permutation, membersOfGroup, membersOfItem}
 use Rattle.grammar.specs.Record.{countFault}
 use Rattle.format.specs.declared.Family.{Family}
-use Rattle.grammar.specs.Family.{LeafOf, leavesOf}
+use Rattle.grammar.specs.Family.{LeafOf, leavesIn}
 use Rattle.grammar.specs.Read.{mapRead}
 use Rattle.grammar.specs.Whole.{asSpares, starHere, members, permutationHere}
 use Rattle.grammar.specs.Blocks.{blockOfGroup, blockOfItem}
@@ -42,8 +43,8 @@ module _ (fam : Family) (t : List ℕ) (m number : ℕ) where
     unfolding membersOfItem blockOfItem
     one-item e w s = record { placed = w; says = s }
 
-pub permutation-noted : (fam : Family) (t : List ℕ) (at m code : ℕ) (e : code ≡ countFault 1 32 (drop at t)) (z : code ≡ 0) (before : List ℕ) (number : ℕ) (after : List ℕ) (r : ℕ)
-    → Noted (GroupNotes fam t m before number after) t (members (leavesOf fam) true (getD t (at + 1) 0) m noStar (drop (at + 2) t)) (faultIn r) r
-    → Noted (ItemNotes fam t m before number after) t (permutationHere (leavesOf fam) m (drop at t)) (faultIn r) r
-permutation-noted fam t at m code e z before number after r s =
-    noted-as (permutation-opens (leavesOf fam) t at m code e z) (map-noted permutation (λ g q w. group-item fam t m number before after g w) s)
+pub permutation-noted : (fam : Family) (lo hi : ℤ) (t : List ℕ) (at m code : ℕ) (e : code ≡ countFault 1 32 (drop at t)) (z : code ≡ 0) (before : List ℕ) (number : ℕ) (after : List ℕ) (r : ℕ)
+    → Noted (GroupNotes fam t m before number after) t (members (leavesIn fam lo hi) true (getD t (at + 1) 0) m noStar (drop (at + 2) t)) (faultIn r) r
+    → Noted (ItemNotes fam t m before number after) t (permutationHere (leavesIn fam lo hi) m (drop at t)) (faultIn r) r
+permutation-noted fam lo hi t at m code e z before number after r s =
+    noted-as (permutation-opens (leavesIn fam lo hi) t at m code e z) (map-noted permutation (λ g q w. group-item fam t m number before after g w) s)

@@ -8,6 +8,7 @@ use borrow.Fn.Kinds.{Dens, resT, endedOf}
 use contract.Lifetimes.{Lfts}
 use denote.Triple.Clauses.{AtExit}
 use Rattle.grammar.specs.Family.{LeafOf}
+use Rattle.sorts.specs.Sorts.{familyOf}
 use Rattle.grammar.specs.Read.{Read}
 use Rattle.grammar.specs.Template.{Group, Item}
 use Rattle.elements.specs.Contract.{faultIn, Noted, stopped, noted}
@@ -21,8 +22,8 @@ use Rattle.items.proofs.group.star_end.Reads as star-end
 use Rattle.items.proofs.group.star_end.Kinds as star-end-kinds
 use Rattle.items.proofs.group.integer_member_end.Reads as integer-member-end
 use Rattle.items.proofs.group.integer_member_end.Kinds as integer-member-end-kinds
-use Rattle.items.proofs.group.float_member_end.Reads as float-member-end
-use Rattle.items.proofs.group.float_member_end.Kinds as float-member-end-kinds
+use Rattle.items.proofs.group.other_member_end.Reads as other-member-end
+use Rattle.items.proofs.group.other_member_end.Kinds as other-member-end-kinds
 use Rattle.items.proofs.group.group_end.Reads as group-end
 use Rattle.items.proofs.group.group_end.Kinds as group-end-kinds
 use Rattle.items.proofs.item.item_end.Reads as item-end
@@ -50,16 +51,16 @@ pub integer-member-end-unique : (κs : Lfts 2) (a : Dens κs integer-member-end-
     → integer-member-end.Post κs a r s → integer-member-end.Post κs a r′ s′ → r ≡ r′
 integer-member-end-unique κs a r r′ s s′ p q = noted-same _ _ _ _ r r′ (p .0) (q .0)
 
-pub float-member-end-unique : (κs : Lfts 2) (a : Dens κs float-member-end-kinds.ps) (r r′ : resT float-member-end-kinds.r κs .Denot) (s s′ : AtExit (endedOf 2 float-member-end-kinds.ps float-member-end-kinds.r) κs)
-    → float-member-end.Post κs a r s → float-member-end.Post κs a r′ s′ → r ≡ r′
-float-member-end-unique κs a r r′ s s′ p q = noted-same _ _ _ _ r r′ (p .0) (q .0)
+pub other-member-end-unique : (κs : Lfts 2) (a : Dens κs other-member-end-kinds.ps) (r r′ : resT other-member-end-kinds.r κs .Denot) (s s′ : AtExit (endedOf 2 other-member-end-kinds.ps other-member-end-kinds.r) κs)
+    → other-member-end.Post κs a r s → other-member-end.Post κs a r′ s′ → r ≡ r′
+other-member-end-unique κs a r r′ s s′ p q = noted-same _ _ _ _ r r′ (p .0) (q .0)
 
 pub group-end-unique : (κs : Lfts 3) (a : Dens κs group-end-kinds.ps) (r r′ : resT group-end-kinds.r κs .Denot) (s s′ : AtExit (endedOf 3 group-end-kinds.ps group-end-kinds.r) κs)
     → group-end.Post κs a r s → group-end.Post κs a r′ s′ → (r ≡ r′) × (r ≤ 16777215 → s .1 .1 .1 .1 .1 .1 .1 .0 .now ≡ s′ .1 .1 .1 .1 .1 .1 .1 .0 .now)
 group-end-unique κs a r r′ s s′ p q =
-    (noted-same _ _ _ _ r r′ (p .0) (q .0), noted-one (s .1 .1 .1 .1 .1 .1 .1 .0 .now ≡ s′ .1 .1 .1 .1 .1 .1 .1 .0 .now) (λ (g : Group (LeafOf (a .1 .1 .1 .1 .1 .0 .family))) x y. x .says .0 ∙ sym (y .says .0)) (p .0) (q .0))
+    (noted-same _ _ _ _ r r′ (p .0) (q .0), noted-one (s .1 .1 .1 .1 .1 .1 .1 .0 .now ≡ s′ .1 .1 .1 .1 .1 .1 .1 .0 .now) (λ (g : Group (LeafOf (familyOf (a .1 .1 .1 .1 .1 .0)))) x y. x .says .0 ∙ sym (y .says .0)) (p .0) (q .0))
 
 pub item-end-unique : (κs : Lfts 3) (a : Dens κs item-end-kinds.ps) (r r′ : resT item-end-kinds.r κs .Denot) (s s′ : AtExit (endedOf 3 item-end-kinds.ps item-end-kinds.r) κs)
     → item-end.Post κs a r s → item-end.Post κs a r′ s′ → (r ≡ r′) × (r ≤ 16777215 → s .1 .1 .1 .1 .1 .0 .now ≡ s′ .1 .1 .1 .1 .1 .0 .now)
 item-end-unique κs a r r′ s s′ p q =
-    (noted-same _ _ _ _ r r′ (p .0) (q .0), noted-one (s .1 .1 .1 .1 .1 .0 .now ≡ s′ .1 .1 .1 .1 .1 .0 .now) (λ (i : Item (LeafOf (a .1 .1 .1 .0 .family))) x y. x .says .0 ∙ sym (y .says .0)) (p .0) (q .0))
+    (noted-same _ _ _ _ r r′ (p .0) (q .0), noted-one (s .1 .1 .1 .1 .1 .0 .now ≡ s′ .1 .1 .1 .1 .1 .0 .now) (λ (i : Item (LeafOf (familyOf (a .1 .1 .1 .0)))) x y. x .says .0 ∙ sym (y .says .0)) (p .0) (q .0))

@@ -2,8 +2,7 @@
 ghost use mathlib.Core.Path.{_≡_};
 ghost use Prim.Native.Nat.{_+_, _≤_};
 ghost use lib.ListN.{length, drop, take};
-ghost use Rattle.format.specs.declared.Family.{Family};
-ghost use Rattle.grammar.specs.Family.{leavesOf};
+ghost use Rattle.sorts.specs.Sorts.{whole, familyOf, leavesFor};
 ghost use Rattle.grammar.specs.Record.{head};
 ghost use Rattle.grammar.specs.Template.{noStar};
 ghost use Rattle.grammar.specs.Whole.{starHere, member, members};
@@ -13,18 +12,18 @@ use crate::record::bounds_fault;
 use crate::record::kind_at;
 use blocks::Block;
 use blocks::number_of;
-use elements::Sort;
-use elements::float_head_end;
 use elements::integer_head_end;
+use elements::other_head_end;
 use elements::refusal;
 use elements::rest_end;
 use format::BOUNDS_SIZE;
 use format::DONE;
 use format::FAULT;
-use format::Family;
 use format::LAST_MEMBER;
 use format::STARS;
 use format::TOO_MANY;
+use sorts::Sort;
+use sorts::WHOLE;
 
 // The place after the 20 at `at`, or its fault; `seen`: its set of or permutation has one already.
 pub fn star_end(t: &[u8], at: usize, seen: bool) -> usize
@@ -51,8 +50,8 @@ fn numbered_end(
     sort: Sort,
     places: &mut [u16; 32],
 ) -> usize
-    requires { ⌜ Place (now t) at × HeadAt (now t) at (head (leavesOf (sort .family)) (drop at (now t))) end × (length (now places) ≡ 32) ⌝ }
-    ensures { λ r. ⌜ Noted (MemberNotes (sort .family) (now (t .entry)) m (now (places .entry)) (now (places .exit))) (now (t .entry)) (member (leavesOf (sort .family)) m (drop at (now (t .entry)))) (faultIn r) r × (length (now (places .exit)) ≡ 32) × (take m (now (places .exit)) ≡ take m (now (places .entry))) ⌝ }
+    requires { ⌜ Place (now t) at × HeadAt (now t) at (head (leavesFor sort) (drop at (now t))) end × (length (now places) ≡ 32) ⌝ }
+    ensures { λ r. ⌜ Noted (MemberNotes (familyOf sort) (now (t .entry)) m (now (places .entry)) (now (places .exit))) (now (t .entry)) (member (leavesFor sort) m (drop at (now (t .entry)))) (faultIn r) r × (length (now (places .exit)) ≡ 32) × (take m (now (places .exit)) ≡ take m (now (places .entry))) ⌝ }
 {
     if FAULT < end {
         return end;
@@ -65,40 +64,22 @@ fn numbered_end(
     rest
 }
 
-// The same of an element template of the integer family.
+// The same of a template of all the integers.
 pub fn integer_member_end(t: &[u8], at: usize, m: usize, places: &mut [u16; 32]) -> usize
     requires { ⌜ Place (now t) at × (length (now places) ≡ 32) ⌝ }
-    ensures { λ r. ⌜ Noted (MemberNotes Family.Integers (now (t .entry)) m (now (places .entry)) (now (places .exit))) (now (t .entry)) (member (leavesOf Family.Integers) m (drop at (now (t .entry)))) (faultIn r) r × (length (now (places .exit)) ≡ 32) × (take m (now (places .exit)) ≡ take m (now (places .entry))) ⌝ }
+    ensures { λ r. ⌜ Noted (MemberNotes (familyOf whole) (now (t .entry)) m (now (places .entry)) (now (places .exit))) (now (t .entry)) (member (leavesFor whole) m (drop at (now (t .entry)))) (faultIn r) r × (length (now (places .exit)) ≡ 32) × (take m (now (places .exit)) ≡ take m (now (places .entry))) ⌝ }
 {
     let end = integer_head_end(t, at);
-    numbered_end(
-        t,
-        at,
-        end,
-        m,
-        Sort {
-            family: Family::Integers,
-        },
-        places,
-    )
+    numbered_end(t, at, end, m, Sort { word: WHOLE }, places)
 }
 
-// The same of the float family.
-pub fn float_member_end(t: &[u8], at: usize, m: usize, places: &mut [u16; 32]) -> usize
+// The same of another sort.
+pub fn other_member_end(t: &[u8], at: usize, m: usize, sort: Sort, places: &mut [u16; 32]) -> usize
     requires { ⌜ Place (now t) at × (length (now places) ≡ 32) ⌝ }
-    ensures { λ r. ⌜ Noted (MemberNotes Family.Floats (now (t .entry)) m (now (places .entry)) (now (places .exit))) (now (t .entry)) (member (leavesOf Family.Floats) m (drop at (now (t .entry)))) (faultIn r) r × (length (now (places .exit)) ≡ 32) × (take m (now (places .exit)) ≡ take m (now (places .entry))) ⌝ }
+    ensures { λ r. ⌜ Noted (MemberNotes (familyOf sort) (now (t .entry)) m (now (places .entry)) (now (places .exit))) (now (t .entry)) (member (leavesFor sort) m (drop at (now (t .entry)))) (faultIn r) r × (length (now (places .exit)) ≡ 32) × (take m (now (places .exit)) ≡ take m (now (places .entry))) ⌝ }
 {
-    let end = float_head_end(t, at);
-    numbered_end(
-        t,
-        at,
-        end,
-        m,
-        Sort {
-            family: Family::Floats,
-        },
-        places,
-    )
+    let end = other_head_end(t, at, sort);
+    numbered_end(t, at, end, m, sort, places)
 }
 
 // The block of the members from m on up to `count`, and of the 20 whose min and max stand at `star`, or of none where that is 0.
@@ -137,7 +118,7 @@ pub fn group_end(
     block: &mut u32,
 ) -> usize
     requires { ⌜ Place (now t) at × (m ≤ 32) × (length (now places) ≡ 32) ⌝ }
-    ensures { λ r. ⌜ Noted (GroupNotes (sort .family) (now (t .entry)) m (now (places .entry)) (now (block .exit)) (now (places .exit))) (now (t .entry)) (members (leavesOf (sort .family)) stars n m noStar (drop at (now (t .entry)))) (faultIn r) r × (length (now (places .exit)) ≡ 32) ⌝ }
+    ensures { λ r. ⌜ Noted (GroupNotes (familyOf sort) (now (t .entry)) m (now (places .entry)) (now (block .exit)) (now (places .exit))) (now (t .entry)) (members (leavesFor sort) stars n m noStar (drop at (now (t .entry)))) (faultIn r) r × (length (now (places .exit)) ≡ 32) ⌝ }
 {
     let mut p = at;
     let mut count = m;
@@ -145,10 +126,10 @@ pub fn group_end(
     let mut more = n;
     while 0 < more {
         let here = p;
-        let family = sort.family;
-        p = match family {
-            Family::Integers => integer_member_end(t, here, count, places),
-            Family::Floats => float_member_end(t, here, count, places),
+        p = if sort.word == WHOLE {
+            integer_member_end(t, here, count, places)
+        } else {
+            other_member_end(t, here, count, sort, places)
         };
         if FAULT < p {
             if !(stars & (kind_at(t, here) == STARS)) {

@@ -5,28 +5,28 @@ ghost use mathlib.Core.Bool.{false};
 ghost use Prim.Native.Nat.{ℕ, _≤_};
 ghost use lib.ListN.{length, drop};
 ghost use Rattle.format.specs.declared.Family.{Family};
-ghost use Rattle.grammar.specs.Family.{leavesOf};
 ghost use Rattle.grammar.specs.Read.{mapRead};
+ghost use Rattle.sorts.specs.Sorts.{familyOf, leavesFor};
 ghost use Rattle.grammar.specs.Whole.{asSpares, starHere, permutationHere, item};
 ghost use Rattle.elements.specs.Contract.{faultIn, Place, Noted};
 ghost use Rattle.items.specs.Notes.{ItemNotes};
-use crate::group::float_member_end;
 use crate::group::group_end;
 use crate::group::integer_member_end;
+use crate::group::other_member_end;
 use crate::group::star_end;
 use crate::record::kind_at;
 use blocks::Block;
 use blocks::number_of;
-use elements::Sort;
 use elements::count_fault;
 use elements::refusal;
 use format::COUNT_SIZE;
 use format::DONE;
 use format::FAULT;
-use format::Family;
 use format::ITEMS_MOST;
 use format::PERMUTATION;
 use format::STARS;
+use sorts::Sort;
+use sorts::WHOLE;
 
 // The place after the 20 that stands as an item at `at`, with m members before it, or its fault.
 fn spares_end(t: &[u8], at: usize, m: usize, block: &mut u32) -> usize
@@ -56,7 +56,7 @@ fn permutation_end(
     block: &mut u32,
 ) -> usize
     requires { ⌜ Place (now t) at × (m ≤ 32) × (length (now places) ≡ 32) ⌝ }
-    ensures { λ r. ⌜ Noted (ItemNotes (sort .family) (now (t .entry)) m (now (places .entry)) (now (block .exit)) (now (places .exit))) (now (t .entry)) (permutationHere (leavesOf (sort .family)) m (drop at (now (t .entry)))) (faultIn r) r × (length (now (places .exit)) ≡ 32) ⌝ }
+    ensures { λ r. ⌜ Noted (ItemNotes (familyOf sort) (now (t .entry)) m (now (places .entry)) (now (block .exit)) (now (places .exit))) (now (t .entry)) (permutationHere (leavesFor sort) m (drop at (now (t .entry)))) (faultIn r) r × (length (now (places .exit)) ≡ 32) ⌝ }
 {
     let code = count_fault(t, at, 1, ITEMS_MOST);
     if code != DONE {
@@ -84,7 +84,7 @@ pub fn item_end(
     block: &mut u32,
 ) -> usize
     requires { ⌜ Place (now t) at × (m ≤ 32) × (length (now places) ≡ 32) ⌝ }
-    ensures { λ r. ⌜ Noted (ItemNotes (sort .family) (now (t .entry)) m (now (places .entry)) (now (block .exit)) (now (places .exit))) (now (t .entry)) (item (leavesOf (sort .family)) m (drop at (now (t .entry)))) (faultIn r) r × (length (now (places .exit)) ≡ 32) ⌝ }
+    ensures { λ r. ⌜ Noted (ItemNotes (familyOf sort) (now (t .entry)) m (now (places .entry)) (now (block .exit)) (now (places .exit))) (now (t .entry)) (item (leavesFor sort) m (drop at (now (t .entry)))) (faultIn r) r × (length (now (places .exit)) ≡ 32) ⌝ }
 {
     let kind = kind_at(t, at);
     if STARS <= kind {
@@ -101,9 +101,8 @@ pub fn item_end(
         min: 0,
         max: 0,
     });
-    let family = sort.family;
-    match family {
-        Family::Integers => integer_member_end(t, at, m, places),
-        Family::Floats => float_member_end(t, at, m, places),
+    if sort.word == WHOLE {
+        return integer_member_end(t, at, m, places);
     }
+    other_member_end(t, at, m, sort, places)
 }

@@ -12,7 +12,8 @@ use borrow.Fn.Kinds.{In}
 use borrow.Fn.PlainCycle.{Measures, is, falls, and}
 use lib.ListN.{length, getD, drop}
 use Rattle.format.specs.declared.Family.{Family}
-use Rattle.grammar.specs.Family.{leavesOf}
+use Rattle.sorts.specs.declared.Sort.{Sort}
+use Rattle.sorts.specs.Sorts.{leavesFor}
 use Rattle.grammar.specs.Record.{head}
 use Rattle.elements.specs.Contract.{placeIn, countIn, From, groupKind, HeadAt, ScannedOne, ScannedAll}
 use Rattle.elements.proofs.Scans.{head-some, head-fits, group-fits, one-fault, one-deep, one-group, one-over, one-leaf, next-fits, all-step, all-stop, all-last, all-end}
@@ -25,22 +26,22 @@ use Rattle.elements.proofs.refusal.Reads as refusal-reads
 use Rattle.elements.proofs.+scan_all.{statement}
 use Rattle.elements.proofs.+scan_all.Tie.{close}
 
-record Scanning (fam : Family) (t : List ℕ) (left n from s m d : ℕ) : Type 0 where
+record Scanning (sort : Sort) (t : List ℕ) (left n from s m d : ℕ) : Type 0 where
   fits : From t s
   down : d ≤ left
-  goes : (r : ℕ) → ScannedAll fam t d m s r → ScannedAll fam t left n from r
+  goes : (r : ℕ) → ScannedAll sort t d m s r → ScannedAll sort t left n from r
 
 -- a turn that has read a record without a fault, at a depth that is left
-record Turn (fam : Family) (t : List ℕ) (s m d end : ℕ) : Type 0 where
+record Turn (sort : Sort) (t : List ℕ) (s m d end : ℕ) : Type 0 where
   fits : From t s
   some : 0 < m
-  stands : HeadAt t (placeIn s) (head (leavesOf fam) (drop (placeIn s) t)) end
+  stands : HeadAt t (placeIn s) (head (leavesFor sort) (drop (placeIn s) t)) end
   sound : end ≤ 16777215
   level : 0 < d
 
-module _ (fam : Family) (t : List ℕ) (s m d end : ℕ) (u : Turn fam t s m d end) where
+module _ (sort : Sort) (t : List ℕ) (s m d end : ℕ) (u : Turn sort t s m d end) where
   some-byte : placeIn s < length t
-  some-byte = head-some (leavesOf fam) t (placeIn s) end (u .fits .0 .1) (u .stands) (u .sound)
+  some-byte = head-some (leavesFor sort) t (placeIn s) end (u .fits .0 .1) (u .stands) (u .sound)
 
   record-fits : (placeIn s ≤ end) × (end ≤ length t) × (length t < 65536) × (s ≤ 16777215)
   record-fits = let v = head-fits t (placeIn s) _ end (u .fits .0 .1) (u .stands) (u .sound) in (v .0, v .1, u .fits .0 .1, u .fits .1)
@@ -53,33 +54,33 @@ module _ (fam : Family) (t : List ℕ) (s m d end : ℕ) (u : Turn fam t s m d e
       let low = u .fits .1 in
       (((omega (arith, v), short), omega (arith, v)), omega (arith, v), short)
 
-  held : groupKind (getD t (placeIn s) 0) ≡ true → (r : ℕ) → ScannedAll fam t (d - 1) (getD t (placeIn s + 1) 0) (s + 2) r → ScannedOne fam t d s r
-  held k r h = one-group fam t d s end (u .fits) (u .sound) (u .level) (u .stands) k r h
+  held : groupKind (getD t (placeIn s) 0) ≡ true → (r : ℕ) → ScannedAll sort t (d - 1) (getD t (placeIn s + 1) 0) (s + 2) r → ScannedOne sort t d s r
+  held k r h = one-group sort t d s end (u .fits) (u .sound) (u .level) (u .stands) k r h
 
-  over : groupKind (getD t (placeIn s) 0) ≡ false → (r : ℕ) → r ≡ 16777215 + 8 → 63 < countIn s → ScannedOne fam t d s r
-  over k r e many = one-over fam t d s end (u .fits) (u .sound) (u .level) (u .stands) k r e many
+  over : groupKind (getD t (placeIn s) 0) ≡ false → (r : ℕ) → r ≡ 16777215 + 8 → 63 < countIn s → ScannedOne sort t d s r
+  over k r e many = one-over sort t d s end (u .fits) (u .sound) (u .level) (u .stands) k r e many
 
-  counts : groupKind (getD t (placeIn s) 0) ≡ false → (r : ℕ) → r ≡ s + 65536 + (end - placeIn s) → countIn s ≤ 63 → ScannedOne fam t d s r
-  counts k r e few = one-leaf fam t d s end (u .fits) (u .sound) (u .level) (u .stands) k r e few
+  counts : groupKind (getD t (placeIn s) 0) ≡ false → (r : ℕ) → r ≡ s + 65536 + (end - placeIn s) → countIn s ≤ 63 → ScannedOne sort t d s r
+  counts k r e few = one-leaf sort t d s end (u .fits) (u .sound) (u .level) (u .stands) k r e few
 
-  module _ (left n from : ℕ) (g : Scanning fam t left n from s m d) where
+  module _ (left n from : ℕ) (g : Scanning sort t left n from s m d) where
     -- what the last one holds is next, a depth further down
-    descends : m ≡ 1 → groupKind (getD t (placeIn s) 0) ≡ true → Scanning fam t left n from (s + 2) (getD t (placeIn s + 1) 0) (d - 1)
+    descends : m ≡ 1 → groupKind (getD t (placeIn s) 0) ≡ true → Scanning sort t left n from (s + 2) (getD t (placeIn s + 1) 0) (d - 1)
     descends last k = record {
       fits = opens k .0;
       down = let l = g .down in omega arith;
-      goes = λ r h. g .goes r (all-last fam t d m s r last (u .fits) (held k r h));
+      goes = λ r h. g .goes r (all-last sort t d m s r last (u .fits) (held k r h));
     }
 
-    passes : (r : ℕ) → ScannedOne fam t d s r → r ≤ 16777215 → Scanning fam t left n from r (m - 1) d
+    passes : (r : ℕ) → ScannedOne sort t d s r → r ≤ 16777215 → Scanning sort t left n from r (m - 1) d
     passes r one sound = record {
-      fits = ((next-fits fam t d s r one sound, u .fits .0 .1), sound);
+      fits = ((next-fits sort t d s r one sound, u .fits .0 .1), sound);
       down = g .down;
-      goes = λ r′ h. g .goes r′ (all-step fam t d m s r r′ (u .some) one sound h);
+      goes = λ r′ h. g .goes r′ (all-step sort t d m s r r′ (u .some) one sound h);
     }
 
-    stops : (r : ℕ) → ScannedOne fam t d s r → 16777215 < r → ScannedAll fam t left n from r
-    stops r one fault = g .goes r (all-stop fam t d m s r (u .some) one fault)
+    stops : (r : ℕ) → ScannedOne sort t d s r → 16777215 < r → ScannedAll sort t left n from r
+    stops r one fault = g .goes r (all-stop sort t d m s r (u .some) one fault)
 
 abbrev μ : Measures 1 scan-all-kinds.ps ℕ
 μ κs a = a .1 .1 .1 .0
@@ -95,7 +96,7 @@ calls t =
     (head-end-reads.Asked, head-end-reads.Learnt, refusal-reads.Asked, refusal-reads.Learnt, is-group-reads.Asked, is-group-reads.Learnt, below t, scan-all.Post)
 
 abbrev Inv : lts.InvT-loop
-Inv t from n left sort s₀ more₀ depths₀ s more depths = Scanning (sort .family) t left n from s more depths
+Inv t from n left sort s₀ more₀ depths₀ s more depths = Scanning sort t left n from s more depths
 
 -- a depth further down there are at most as many as a byte says
 abbrev μ-loop : lts.MeasureT-loop
@@ -112,8 +113,8 @@ returns t c =
     let turn = c .before .before .before in
     let a = turn .before .before .args in
     let g = turn .loop .inv in
-    let one = one-fault (a .sort .family) (a .t .now) (turn .loop .depths) (turn .loop .s) (c .before .head-end .result) (g .fits) (c .before .head-end .ensures) (c .if1 .taken) in
-    g .goes _ (all-stop (a .sort .family) (a .t .now) (turn .loop .depths) _ (turn .loop .s) _ (c .before .before .loop-test .taken) one (c .if1 .taken))
+    let one = one-fault (a .sort) (a .t .now) (turn .loop .depths) (turn .loop .s) (c .before .head-end .result) (g .fits) (c .before .head-end .ensures) (c .if1 .taken) in
+    g .goes _ (all-stop (a .sort) (a .t .now) (turn .loop .depths) _ (turn .loop .s) _ (c .before .before .loop-test .taken) one (c .if1 .taken))
 
 refusal-requires : (t : ℕ) → lts.Need-refusal-requires (calls t) (at t) scan-all.Post Inv μ-loop
 refusal-requires t c κs = search needs
@@ -124,11 +125,11 @@ returns-2 t c =
     let turn = read .before .before in
     let a = turn .before .before .args in
     let g = turn .loop .inv in
-    let one = one-deep (a .sort .family) (a .t .now) (turn .loop .depths) (turn .loop .s) (read .head-end .result) (g .fits) (c .before .before .if1 .left) (read .head-end .ensures) _ (c .refusal .ensures) (c .before .if2 .taken) in
-    g .goes _ (all-stop (a .sort .family) (a .t .now) (turn .loop .depths) _ (turn .loop .s) _ (read .before .loop-test .taken) one (omega (arith, c .refusal .ensures)))
+    let one = one-deep (a .sort) (a .t .now) (turn .loop .depths) (turn .loop .s) (read .head-end .result) (g .fits) (c .before .before .if1 .left) (read .head-end .ensures) _ (c .refusal .ensures) (c .before .if2 .taken) in
+    g .goes _ (all-stop (a .sort) (a .t .now) (turn .loop .depths) _ (turn .loop .s) _ (read .before .loop-test .taken) one (omega (arith, c .refusal .ensures)))
 
 -- what is known where the kind is looked at
-turn-of : (t : ℕ) (c : lts.Else2 (calls t) (at t) scan-all.Post Inv μ-loop) → Turn (c .before .before .before .before .before .before .args .sort .family) (c .before .before .before .before .before .before .args .t .now) (c .before .before .before .before .loop .s) (c .before .before .before .before .loop .more) (c .before .before .before .before .loop .depths) (c .before .before .head-end .result)
+turn-of : (t : ℕ) (c : lts.Else2 (calls t) (at t) scan-all.Post Inv μ-loop) → Turn (c .before .before .before .before .before .before .args .sort) (c .before .before .before .before .before .before .args .t .now) (c .before .before .before .before .loop .s) (c .before .before .before .before .loop .more) (c .before .before .before .before .loop .depths) (c .before .before .head-end .result)
 turn-of t c = record {
   fits = c .before .before .before .before .loop .inv .fits;
   some = c .before .before .before .loop-test .taken;
@@ -183,7 +184,7 @@ scan-all-requires t c κs =
     (omega (arith, c .before .before .before .before .before .before .before .before .before .before .before .pre .0), held-fits t (c .before .before) .0)
 
 -- one with members was read, or refused
-one-held : (t : ℕ) (c : lts.After-scan-all (calls t) (at t) scan-all.Post Inv μ-loop) → ScannedOne (c .before .before .before .before .before .before .before .before .before .before .before .before .args .sort .family) (c .before .before .before .before .before .before .before .before .before .before .before .before .args .t .now) (c .before .before .before .before .before .before .before .before .before .before .loop .depths) (c .before .before .before .before .before .before .before .before .before .before .loop .s) (c .scan-all .result)
+one-held : (t : ℕ) (c : lts.After-scan-all (calls t) (at t) scan-all.Post Inv μ-loop) → ScannedOne (c .before .before .before .before .before .before .before .before .before .before .before .before .args .sort) (c .before .before .before .before .before .before .before .before .before .before .before .before .args .t .now) (c .before .before .before .before .before .before .before .before .before .before .loop .depths) (c .before .before .before .before .before .before .before .before .before .before .loop .s) (c .scan-all .result)
 one-held t c = held _ _ _ _ _ _ (turn-of t (c .before .before .before .before .before .before)) (sym (c .before .before .before .before .is-group .ensures) ∙ c .before .before .before .if3 .taken) _ (c .scan-all .ensures)
 
 returns-3 : (t : ℕ) → lts.Need-returns-3 (calls t) (at t) scan-all.Post Inv μ-loop
@@ -233,7 +234,7 @@ returns-5 : (t : ℕ) → lts.Need-returns-5 (calls t) (at t) scan-all.Post Inv 
 returns-5 t c =
     let turn = c .before in
     let a = turn .before .before .args in
-    turn .loop .inv .goes _ (all-end (a .sort .family) (a .t .now) (turn .loop .depths) (turn .loop .more) (turn .loop .s) (omega (arith, c .loop-test .left)) (c .before .loop .inv .fits))
+    turn .loop .inv .goes _ (all-end (a .sort) (a .t .now) (turn .loop .depths) (turn .loop .more) (turn .loop .s) (omega (arith, c .loop-test .left)) (c .before .loop .inv .fits))
 
 pub +scan-all-spec : {M : Type 1} → statement M
 +scan-all-spec = close μ λ t. lts.spec (calls t)

@@ -1,11 +1,5 @@
 -- `elements::integer_end` meets its contract: each test of the code is the next test of `leafHead`. Assumes nothing.
-use mathlib.Core.Path.{_≡_}
-use mathlib.Core.Bool.{Bool}
-use lib.IntN.{ℤ}
-use lib.Signed.{ltZ}
-use mir.Syntax.{w32}
-use mir.Val.{toZ, ofZ, SFits}
-use mir.Facts.{toZ-ofZ}
+use Rattle.integers.proofs.SignedLocals.{told-order}
 use Rattle.elements.proofs.Records.{single-short, single-right, range-short, range-reversed, range-right, any-right, unknown-kind}
 use borrow.Author.Needs.{needs}
 use Rattle.elements.proofs.integer_end.Statement.{statement}
@@ -14,10 +8,6 @@ use Rattle.elements.proofs.integer_end.Reads as reads
 use Rattle.elements.proofs.integer_end.Lts as lts
 use Rattle.elements.proofs.refusal.Reads as refusal-reads
 use Rattle.integers.proofs.int_at.Reads as int-at-reads
-
--- the test of two integers that were read, out of their bits
-told-order : (a b i j : ℤ) (f : Bool) → ltZ (toZ w32 (ofZ w32 a)) (toZ w32 (ofZ w32 b)) ≡ f → SFits w32 a → SFits w32 b → a ≡ i → b ≡ j → ltZ i j ≡ f
-told-order a b i j f h fa fb e g = rw (toZ-ofZ fa, toZ-ofZ fb, e, g) at h
 
 shared-slice-read-kind : tie.Need-shared-slice-read-kind
 shared-slice-read-kind c = search needs
@@ -68,7 +58,7 @@ returns-4 : tie.Need-returns-4
 returns-4 c =
     let p = c .before in
     let a = p .before .before .before .before .before .before .before .before .args in
-    range-reversed (a .t .now) (a .at) (p .before .before .before .before .if3 .taken) _ (c .refusal3 .ensures) (p .before .before .before .if4 .left) (told-order _ _ _ _ _ (p .if5 .taken) (record { sfits = p .before .before .int-at .ok }) (record { sfits = p .before .int-at2 .ok }) (p .before .before .int-at .ensures) (p .before .int-at2 .ensures))
+    range-reversed (a .t .now) (a .at) (p .before .before .before .before .if3 .taken) _ (c .refusal3 .ensures) (p .before .before .before .if4 .left) (told-order _ _ _ _ _ (p .if5 .taken) (p .before .before .int-at .ok) (p .before .int-at2 .ok) (p .before .before .int-at .ensures) (p .before .int-at2 .ensures))
 
 add-result-2 : tie.Need-add-result-2
 add-result-2 c = search needs
@@ -76,7 +66,7 @@ add-result-2 c = search needs
 returns-5 : tie.Need-returns-5
 returns-5 c =
     let a = c .before .before .before .before .before .before .before .before .args in
-    range-right (a .t .now) (a .at) (c .before .before .before .before .if3 .taken) (c .before .before .before .if4 .left) (told-order _ _ _ _ _ (c .if5 .left) (record { sfits = c .before .before .int-at .ok }) (record { sfits = c .before .int-at2 .ok }) (c .before .before .int-at .ensures) (c .before .int-at2 .ensures))
+    range-right (a .t .now) (a .at) (c .before .before .before .before .if3 .taken) (c .before .before .before .if4 .left) (told-order _ _ _ _ _ (c .if5 .left) (c .before .before .int-at .ok) (c .before .int-at2 .ok) (c .before .before .int-at .ensures) (c .before .int-at2 .ensures))
 
 add-result-3 : tie.Need-add-result-3
 add-result-3 c = search needs

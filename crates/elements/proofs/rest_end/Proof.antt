@@ -2,7 +2,8 @@
 use mathlib.Core.Path.{sym, _∙_}
 use native.Mathlib.Omega.{arith}
 use borrow.Author.Tests.{not-true, not-false}
-use Rattle.grammar.specs.Family.{leavesOf}
+use Rattle.sorts.specs.declared.Sort.{Sort}
+use Rattle.sorts.specs.Sorts.{leavesFor}
 use Rattle.elements.proofs.Scans.{head-some, group-fits, leaf-ended, group-stopped, group-ended}
 use Prim.Native.Nat.{_+_}
 use borrow.Author.Needs.{needs}
@@ -16,7 +17,7 @@ use Rattle.elements.proofs.scan_all.Reads as scan-all-reads
 shared-slice-read-is-group : tie.Need-shared-slice-read-is-group
 shared-slice-read-is-group c =
     let p = c .before .before .pre in
-    head-some (leavesOf (c .before .before .args .sort .family)) _ _ _ (p .0 .1) (p .1) (p .2)
+    head-some (leavesFor (c .before .before .args .sort)) _ _ _ (p .0 .1) (p .1) (p .2)
 
 is-group-requires : tie.Need-is-group-requires
 is-group-requires c κs = search needs
@@ -26,7 +27,7 @@ returns c =
     let start = c .before .before .before .before in
     let a = start .args in
     let p = start .pre in
-    leaf-ended (a .sort .family) (a .t .now) (a .at) _ (p .0 .1) (p .2) (p .1) (sym (c .before .is-group .ensures) ∙ not-true _ (c .if1 .taken))
+    leaf-ended (a .sort) (a .t .now) (a .at) _ (p .0 .1) (p .2) (p .1) (sym (c .before .is-group .ensures) ∙ not-true _ (c .if1 .taken))
 
 add-scan-all : tie.Need-add-scan-all
 add-scan-all c = search needs
@@ -55,7 +56,7 @@ returns-2 c =
     let start = read .before .before .before in
     let a = start .args in
     let p = start .pre in
-    group-stopped (a .sort .family) (a .t .now) (a .at) _ (p .0 .1) (p .2) _ (c .before .scan-all .ensures) (p .1) (sym (read .is-group .ensures) ∙ not-false _ (c .before .before .before .if1 .left)) (c .if2 .taken)
+    group-stopped (a .sort) (a .t .now) (a .at) _ (p .0 .1) (p .2) _ (c .before .scan-all .ensures) (p .1) (sym (read .is-group .ensures) ∙ not-false _ (c .before .before .before .if1 .left)) (c .if2 .taken)
 
 returns-3 : tie.Need-returns-3
 returns-3 c =
@@ -63,7 +64,7 @@ returns-3 c =
     let start = read .before .before .before in
     let a = start .args in
     let p = start .pre in
-    group-ended (a .sort .family) (a .t .now) (a .at) _ (p .0 .1) (p .2) _ (c .before .scan-all .ensures) (p .1) (sym (read .is-group .ensures) ∙ not-false _ (c .before .before .before .if1 .left)) (c .if2 .left)
+    group-ended (a .sort) (a .t .now) (a .at) _ (p .0 .1) (p .2) _ (c .before .scan-all .ensures) (p .1) (sym (read .is-group .ensures) ∙ not-false _ (c .before .before .before .if1 .left)) (c .if2 .left)
 
 pub rest-end-spec : {M : Type 1} → statement M
 rest-end-spec =

@@ -1,6 +1,5 @@
 -- `elements::scan_element` meets its contract. Assumes nothing.
 use native.Mathlib.Omega.{arith}
-use Rattle.format.specs.declared.Family.{Family}
 use Rattle.grammar.specs.Reading.{uncounted, outermost, readElement}
 use Rattle.elements.proofs.Scans.{head-stops, head-ended, noted-small}
 use Rattle.elements.proofs.WholeInputs.{too-long, answer-refused, answer-left-over, answer-accepted, uncounted-ended}
@@ -9,28 +8,28 @@ use Rattle.elements.proofs.scan_element.Statement.{statement}
 use Rattle.elements.proofs.scan_element.Tie as tie
 use Rattle.elements.proofs.scan_element.Reads as reads
 use Rattle.elements.proofs.scan_element.Lts as lts
-use Rattle.elements.proofs.integer_head_end.Reads as integer-head-end-reads
+use Rattle.elements.proofs.head_end.Reads as head-end-reads
 use Rattle.elements.proofs.rest_end.Reads as rest-end-reads
 
 returns : tie.Need-returns
 unfolding readElement
 returns c = too-long (c .before .before .args .t .now) _ (c .if1 .taken)
 
-integer-head-end-requires : tie.Need-integer-head-end-requires
-integer-head-end-requires c κs = search needs
+head-end-requires : tie.Need-head-end-requires
+head-end-requires c κs = search needs
 
 sub-result : tie.Need-sub-result
 sub-result c = search needs
 
 cast-result : tie.Need-cast-result
 cast-result c =
-    let v = head-stops _ _ _ _ (omega (arith, c .before .before .if1 .left)) (c .before .integer-head-end .ensures) (c .if2 .taken) in
+    let v = head-stops _ _ _ _ (omega (arith, c .before .before .if1 .left)) (c .before .head-end .ensures) (c .if2 .taken) in
     omega (arith, v .1)
 
 returns-2 : tie.Need-returns-2
 unfolding readElement
 returns-2 c =
-    answer-refused (c .before .before .before .before .args .t .now) _ (c .before .before .if1 .left) _ _ _ (uncounted-ended _ _ _ (head-ended Family.Integers _ 0 _ (omega (arith, c .before .before .if1 .left)) (c .before .integer-head-end .ensures) (c .if2 .taken))) (omega (arith, c .if2 .taken))
+    answer-refused (c .before .before .before .before .args .t .now) _ (c .before .before .if1 .left) _ _ _ (uncounted-ended _ _ _ (head-ended (c .before .before .before .before .args .sort) _ 0 _ (omega (arith, c .before .before .if1 .left)) (c .before .head-end .ensures) (c .if2 .taken))) (omega (arith, c .if2 .taken))
 
 rest-end-requires : tie.Need-rest-end-requires
 rest-end-requires c κs = search needs
@@ -61,7 +60,7 @@ scan-element-spec =
     tie.close
     (tie.spec
     returns
-    integer-head-end-requires
+    head-end-requires
     sub-result
     cast-result
     returns-2

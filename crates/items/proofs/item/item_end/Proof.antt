@@ -1,21 +1,20 @@
 -- `items::item::item_end` meets its contract: the kind says which item it is. Assumes nothing.
-use mathlib.Core.Path.{_≡_}
+use mathlib.Core.Path.{_≡_, refl}
 use mathlib.Core.Logic.{⊎-elim}
 use native.Mathlib.Omega.{arith}
-use Rattle.format.specs.declared.Family.{Family}
 use Rattle.grammar.specs.Template.{one}
-use Rattle.grammar.specs.Family.{leavesOf}
 use Rattle.items.proofs.ItemRecords.{item-spares, item-permutation, item-member}
 use Rattle.items.proofs.MemberPlaces.{noted-as, map-noted}
 use Rattle.items.proofs.Groups.{member-read}
 use Rattle.items.proofs.Items.{one-item}
+use Rattle.sorts.specs.Sorts.{whole, familyOf, leavesFor}
 use borrow.Author.Needs.{needs}
 use Rattle.items.proofs.item.item_end.Statement.{statement}
 use Rattle.items.proofs.item.item_end.Tie as tie
 use Rattle.items.proofs.item.item_end.Reads as reads
 use Rattle.items.proofs.item.item_end.Lts as lts
 use Rattle.blocks.proofs.number_of.Reads as number-of-reads
-use Rattle.items.proofs.group.float_member_end.Reads as float-member-end-reads
+use Rattle.items.proofs.group.other_member_end.Reads as other-member-end-reads
 use Rattle.items.proofs.group.integer_member_end.Reads as integer-member-end-reads
 use Rattle.items.proofs.item.permutation_end.Reads as permutation-end-reads
 use Rattle.items.proofs.item.spares_end.Reads as spares-end-reads
@@ -32,7 +31,7 @@ returns c =
     let start = c .before .before .before .before .before .before in
     let a = start .args in
     let told = c .before .before .before .before in
-    (noted-as (item-spares (leavesOf (a .sort .family)) (a .t .now) (a .at) (a .m) _ (told .kind-at .ensures) (c .before .before .if2 .taken)) (c .spares-end .ensures (a .sort .family) (a .places .now)), start .pre .2)
+    (noted-as (item-spares (leavesFor (a .sort)) (a .t .now) (a .at) (a .m) _ (told .kind-at .ensures) (c .before .before .if2 .taken)) (c .spares-end .ensures (familyOf (a .sort)) (a .places .now)), start .pre .2)
 
 permutation-end-requires : tie.Need-permutation-end-requires
 permutation-end-requires c κs = search needs
@@ -42,10 +41,10 @@ returns-2 c =
     let start = c .before .before .before .before .before .before .before .before in
     let a = start .args in
     let told = c .before .before .before .before .before .before in
-    (noted-as (item-permutation (leavesOf (a .sort .family)) (a .t .now) (a .at) (a .m) _ (told .kind-at .ensures) (c .before .before .before .if3 .taken)) (c .permutation-end .ensures .0), c .permutation-end .ensures .1)
+    (noted-as (item-permutation (leavesFor (a .sort)) (a .t .now) (a .at) (a .m) _ (told .kind-at .ensures) (c .before .before .before .if3 .taken)) (c .permutation-end .ensures .0), c .permutation-end .ensures .1)
 
-cast-t15 : tie.Need-cast-t15
-cast-t15 c = search needs
+cast-t14 : tie.Need-cast-t14
+cast-t14 c = search needs
 
 number-of-requires : tie.Need-number-of-requires
 number-of-requires c κs = search needs
@@ -54,33 +53,27 @@ number-of-requires c κs = search needs
 no-other : (c : tie.Joined1) → (c .before .kind-at .result ≡ 0x20 → ⊥) × (c .before .kind-at .result ≡ 0x21 → ⊥)
 no-other c = ⊎-elim (λ w. (w .1 .left, w .2 .left)) (λ w. (λ e. omega (arith, w .left, e), λ e. omega (arith, w .left, e))) (c .if1 .came)
 
-enum-told : tie.Need-enum-told
-enum-told c = search needs
-
 integer-member-end-requires : tie.Need-integer-member-end-requires
 integer-member-end-requires c κs = search needs
 
-enum-told-2 : tie.Need-enum-told-2
-enum-told-2 c = search needs
-
-float-member-end-requires : tie.Need-float-member-end-requires
-float-member-end-requires c κs = search needs
+other-member-end-requires : tie.Need-other-member-end-requires
+other-member-end-requires c κs = search needs
 
 returns-3 : tie.Need-returns-3
 returns-3 c =
     let start = c .before .before .before .before .before .before .before .before in
     let a = start .args in
     let kinds = no-other (c .before .before .before .before .before) in
-    let w = member-read (a .sort .family) Family.Integers (a .t .now) (a .at) (a .m) (a .places .now) _ _ (c .before .before .enum-told .given .1) (c .integer-member-end .ensures) in
-    (noted-as (item-member (leavesOf (a .sort .family)) (a .t .now) (a .at) (a .m) _ (c .before .before .before .before .before .before .kind-at .ensures) (kinds .0) (kinds .1)) (map-noted one (λ e q h. one-item (a .sort .family) _ _ _ _ _ e h (c .before .before .before .before .number-of .ensures)) (w .read)), w .size)
+    let w = member-read (a .sort) whole (a .t .now) (a .at) (a .m) (a .places .now) _ _ (c .before .before .if4 .taken) (c .integer-member-end .ensures) in
+    (noted-as (item-member (leavesFor (a .sort)) (a .t .now) (a .at) (a .m) _ (c .before .before .before .before .before .before .kind-at .ensures) (kinds .0) (kinds .1)) (map-noted one (λ e q h. one-item (familyOf (a .sort)) _ _ _ _ _ e h (c .before .before .before .before .number-of .ensures)) (w .read)), w .size)
 
 returns-4 : tie.Need-returns-4
 returns-4 c =
     let start = c .before .before .before .before .before .before .before .before in
     let a = start .args in
     let kinds = no-other (c .before .before .before .before .before) in
-    let w = member-read (a .sort .family) Family.Floats (a .t .now) (a .at) (a .m) (a .places .now) _ _ (c .before .before .enum-told2 .given .1) (c .float-member-end .ensures) in
-    (noted-as (item-member (leavesOf (a .sort .family)) (a .t .now) (a .at) (a .m) _ (c .before .before .before .before .before .before .kind-at .ensures) (kinds .0) (kinds .1)) (map-noted one (λ e q h. one-item (a .sort .family) _ _ _ _ _ e h (c .before .before .before .before .number-of .ensures)) (w .read)), w .size)
+    let w = member-read (a .sort) (a .sort) (a .t .now) (a .at) (a .m) (a .places .now) _ _ refl (c .other-member-end .ensures) in
+    (noted-as (item-member (leavesFor (a .sort)) (a .t .now) (a .at) (a .m) _ (c .before .before .before .before .before .before .kind-at .ensures) (kinds .0) (kinds .1)) (map-noted one (λ e q h. one-item (familyOf (a .sort)) _ _ _ _ _ e h (c .before .before .before .before .number-of .ensures)) (w .read)), w .size)
 
 pub item-end-spec : {M : Type 1} → statement M
 item-end-spec =
@@ -91,11 +84,9 @@ item-end-spec =
     returns
     permutation-end-requires
     returns-2
-    cast-t15
+    cast-t14
     number-of-requires
-    enum-told
     integer-member-end-requires
-    enum-told-2
-    float-member-end-requires
     returns-3
+    other-member-end-requires
     returns-4)

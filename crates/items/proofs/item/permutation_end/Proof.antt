@@ -2,11 +2,11 @@
 use mathlib.Core.Path.{sym, _∙_}
 use Prim.Native.Nat.{_+_}
 use native.Mathlib.Omega.{arith}
-use Rattle.grammar.specs.Family.{leavesOf}
 use Rattle.grammar.proofs.RecordParts.{count-inv}
 use Rattle.items.proofs.ItemRecords.{permutation-fault}
 use Rattle.items.proofs.MemberPlaces.{stopped-as}
 use Rattle.items.proofs.Items.{permutation-noted}
+use Rattle.sorts.specs.Sorts.{familyOf, lowerOf, upperOf, leavesFor}
 use borrow.Author.Needs.{needs}
 use Rattle.items.proofs.item.permutation_end.Statement.{statement}
 use Rattle.items.proofs.item.permutation_end.Tie as tie
@@ -27,7 +27,7 @@ returns c =
     let start = c .before .before .before .before in
     let a = start .args in
     let b = c .before .before .count-fault in
-    (stopped-as (b .result) (permutation-fault (leavesOf (a .sort .family)) (a .t .now) (a .at) (a .m) _ (b .ensures) (c .before .if1 .taken)) (omega (arith, c .before .if1 .taken)) (search needs) (omega (arith, c .refusal .ensures)), start .pre .2)
+    (stopped-as (b .result) (permutation-fault (leavesFor (a .sort)) (a .t .now) (a .at) (a .m) _ (b .ensures) (c .before .if1 .taken)) (omega (arith, c .before .if1 .taken)) (search needs) (omega (arith, c .refusal .ensures)), start .pre .2)
 
 add-group-end : tie.Need-add-group-end
 add-group-end c = search needs
@@ -55,7 +55,7 @@ returns-2 c =
     let start = c .before .before .before .before .before .before .before in
     let a = start .args in
     let read = c .before .before .before .before .before in
-    (permutation-noted (a .sort .family) (a .t .now) (a .at) (a .m) _ (read .count-fault .ensures) (c .before .before .before .before .if1 .left) _ _ _ _ (c .group-end .ensures .0), c .group-end .ensures .1)
+    (permutation-noted (familyOf (a .sort)) (lowerOf (a .sort)) (upperOf (a .sort)) (a .t .now) (a .at) (a .m) _ (read .count-fault .ensures) (c .before .before .before .before .if1 .left) _ _ _ _ (c .group-end .ensures .0), c .group-end .ensures .1)
 
 pub permutation-end-spec : {M : Type 1} → statement M
 permutation-end-spec =
