@@ -1,4 +1,4 @@
--- The definitions on small examples: a length attribute and a set of {?, 1}, and bytes that are refused. Assumes nothing.
+-- The definitions on small examples: a length attribute, hours 0 to 23 and a set of {?, 1}, and bytes that are refused. Assumes nothing.
 use mathlib.Core.Path.{_≡_, refl}
 use mathlib.Core.Bool.{_||_, _&&_, cond}
 use mathlib.Core.List.{List, [], _∷_, _++_}
@@ -11,29 +11,30 @@ use Rattle.format.specs.Bounds.{badBounds}
 use Rattle.blocks.specs.Numbers.{numberOf, blockIn, numbersOf, blocksIn}
 use Rattle.format.specs.declared.Family.{Family}
 use Rattle.grammar.specs.Element.{leaf}
-use Rattle.grammar.specs.Leaf.{single, any, singleHead, leafHead}
-use Rattle.grammar.specs.Record.{countFault, boundsFault, groupHead, head}
-use Rattle.grammar.specs.Read.{refuse, ended, mapRead}
+use Rattle.grammar.specs.Leaf.{single, any, singleHead, leafHead, reaches, ofType}
+use Rattle.grammar.specs.Record.{countFault, boundsFault, typeFault, groupHead, head}
+use Rattle.grammar.specs.Read.{refuse, ended, mapRead, andThen}
 use Rattle.grammar.specs.Reading.{uncounted, opened, elem}
 use Rattle.grammar.specs.Template.{noStar, grouped, setOf, between, membersOfGroup, membersOf}
-use Rattle.grammar.specs.Whole.{clashes, numbered, putMember, thenMembers, member, members, contents, bodyHere, templateHere, readTemplate}
+use Rattle.grammar.specs.Whole.{clashes, numbered, putMember, thenMembers, member, members, contents, bodyHere, lengthHere, typeHere, headsHere, templateHere, readTemplate}
 use Rattle.grammar.specs.Blocks.{blockOfGroup, blocksOf, bodyKind, StandsAt, Standing}
 use Rattle.plans.specs.Plans.{Planned, PlanOf, refusedPlan, aPlan}
 use Rattle.plans.specs.declared.Plan.{Plan}
 
 bytes : List ℕ
-bytes = 0x30 ∷ 1 ∷ 3 ∷ 0x11 ∷ 2 ∷ 0x03 ∷ 0x01 ∷ 1 ∷ 0 ∷ 0 ∷ 0 ∷ []
+bytes = 0x30 ∷ 1 ∷ 3 ∷ 0x31 ∷ 0 ∷ 0 ∷ 0 ∷ 0 ∷ 23 ∷ 0 ∷ 0 ∷ 0 ∷ 0x11 ∷ 2 ∷ 0x03 ∷ 0x01 ∷ 1 ∷ 0 ∷ 0 ∷ 0 ∷ []
 
 plan : Plan
-plan = record { number = 0; low = 1; high = 3; kind = 0x11; count = 1; members = 2; blocks = 512 ∷ replicate 31 0; places = 5 ∷ 6 ∷ replicate 30 0 }
+plan = record { number = 0; low = 1; high = 3; sort = record { word = 23 }; kind = 0x11; count = 1; members = 2; blocks = 512 ∷ replicate 31 0; places = 14 ∷ 15 ∷ replicate 30 0 }
 
 set-planned : PlanOf Family.Integers bytes plan
-unfolding bytes plan readTemplate templateHere bodyHere contents members member numbered thenMembers putMember elem opened head groupHead leafHead singleHead boundsFault countFault clashes uncounted ended mapRead intAt signed blocksOf blockOfGroup bodyKind membersOf membersOfGroup numberOf blockIn numbersOf blocksIn Standing
+unfolding bytes plan readTemplate templateHere headsHere lengthHere typeHere typeFault andThen ofType reaches bodyHere contents members member numbered thenMembers putMember elem opened head groupHead leafHead singleHead boundsFault countFault clashes uncounted ended mapRead intAt signed blocksOf blockOfGroup bodyKind membersOf membersOfGroup numberOf blockIn numbersOf blocksIn Standing
 set-planned =
-    aPlan (between 1 3) (setOf (grouped (leaf any ∷ leaf (single (lib.IntN.pos 1)) ∷ []) noStar)) refl refl
+    aPlan (record { length = between 1 3; lower = lib.IntN.pos 0; upper = lib.IntN.pos 23 }) (setOf (grouped (leaf any ∷ leaf (single (lib.IntN.pos 1)) ∷ []) noStar)) refl refl
     (record {
       lower = refl;
       upper = refl;
+      sort = refl;
       kind = refl;
       fewBlocks = omega arith;
       count = refl;
@@ -46,8 +47,9 @@ set-planned =
 
 -- the empty template is refused with 3, and all else in its plan is 0
 plan-of-none : Plan
-plan-of-none = record { number = 3; low = 0; high = 0; kind = 0; count = 0; members = 0; blocks = replicate 32 0; places = replicate 32 0 }
+plan-of-none = record { number = 3; low = 0; high = 0; sort = record { word = 0 }; kind = 0; count = 0; members = 0; blocks = replicate 32 0; places = replicate 32 0 }
 
 none-planned : (fam : Family) → PlanOf fam [] plan-of-none
-unfolding plan-of-none readTemplate templateHere bodyHere ended
-none-planned fam = refusedPlan 3 refl (omega arith) refl
+unfolding plan-of-none readTemplate templateHere headsHere lengthHere typeHere andThen bodyHere ended
+none-planned Family.Integers = refusedPlan 3 refl (omega arith) refl
+none-planned Family.Floats = refusedPlan 3 refl (omega arith) refl

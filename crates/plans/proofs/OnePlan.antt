@@ -5,7 +5,7 @@ use Prim.Native.Nat.{ℕ, _-_}
 use native.Mathlib.Omega.{arith}
 use lib.ListN.{replicate}
 use Rattle.blocks.specs.Numbers.{numbersOf}
-use Rattle.grammar.specs.Template.{Body, Length}
+use Rattle.grammar.specs.Template.{Body, Heads}
 use Rattle.format.specs.declared.Family.{Family}
 use Rattle.grammar.specs.Family.{LeafOf}
 use Rattle.grammar.specs.Blocks.{blocksOf}
@@ -17,19 +17,21 @@ pub record SamePlan (p p′ : Plan) : Type 0 where
   pub number : p .number ≡ p′ .number
   pub low : p .low ≡ p′ .low
   pub high : p .high ≡ p′ .high
+  pub sort : p .sort .word ≡ p′ .sort .word
   pub kind : p .kind ≡ p′ .kind
   pub count : p .count ≡ p′ .count
   pub members : p .members ≡ p′ .members
   pub blocks : p .blocks ≡ p′ .blocks
   pub places : (p .number ≡ 0 → ⊥) → p .places ≡ p′ .places
 
-planned-same : (fam : Family) (t : List ℕ) (a : Length) (b : Body (LeafOf fam)) (p p′ : Plan) → p .number ≡ 0 → p′ .number ≡ 0 → Planned fam t a b p → Planned fam t a b p′ → SamePlan p p′
+planned-same : (fam : Family) (t : List ℕ) (a : Heads) (b : Body (LeafOf fam)) (p p′ : Plan) → p .number ≡ 0 → p′ .number ≡ 0 → Planned fam t a b p → Planned fam t a b p′ → SamePlan p p′
 planned-same fam t a b p p′ z z′ x y =
     let count : p .count ≡ p′ .count = x .count ∙ sym (y .count) in
     record {
       number = z ∙ sym z′;
       low = x .lower ∙ sym (y .lower);
       high = x .upper ∙ sym (y .upper);
+      sort = x .sort ∙ sym (y .sort);
       kind = x .kind ∙ sym (y .kind);
       count = count;
       members = x .size ∙ sym (y .size);
@@ -42,6 +44,7 @@ refused-same p p′ e = record {
   number = ap (λ (x : Plan). x .number) e;
   low = ap (λ (x : Plan). x .low) e;
   high = ap (λ (x : Plan). x .high) e;
+  sort = ap (λ (x : Plan). x .sort .word) e;
   kind = ap (λ (x : Plan). x .kind) e;
   count = ap (λ (x : Plan). x .count) e;
   members = ap (λ (x : Plan). x .members) e;

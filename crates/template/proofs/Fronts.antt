@@ -1,44 +1,75 @@
 -- What stands before the items: the heads and the record of the body together. Assumes nothing.
-use mathlib.Core.Path.{_≡_, _∙_}
+use mathlib.Core.Path.{_≡_, sym, ap, _∙_}
 use mathlib.Core.List.{List}
 use Prim.Native.Nat.{ℕ, _+_, _≤_, _<_}
 use native.Mathlib.Omega.{arith}
 use lib.ListN.{length, getD, drop}
-use Rattle.grammar.specs.Template.{Length, template}
+use lib.Seq.{getD-drop, drop-drop}
+use Rattle.grammar.specs.Template.{Length, Heads, template}
 use Rattle.format.specs.declared.Family.{Family}
-use Rattle.grammar.specs.Family.{leavesOf}
-use Rattle.grammar.specs.Read.{refuse, mapRead}
-use Rattle.grammar.specs.Whole.{contents, bodyHere, templateHere}
-use Rattle.template.specs.Fronts.{lengthOf, Bounds, HeadsOf, headsFault, headsRead, BodyHead, bodyFault, bodyRead}
-use Rattle.template.specs.declared.front.Heads.{Heads}
+use Rattle.grammar.specs.Family.{leavesIn}
+use Rattle.grammar.specs.Read.{Read, refuse, refuseOr, mapRead, andThen}
+use Rattle.grammar.specs.Whole.{contents, bodyHere, headsHere, templateHere}
+use Rattle.sorts.specs.Sorts.{Sorted}
+use Rattle.sorts.proofs.Words.{said}
+use Rattle.heads.specs.Fronts.{lengthOf, ownFault, Said, HeadsAt, headsFault, headsRead}
+use Rattle.heads.proofs.HeadRecords.{body-by, own-inv}
+use Rattle.grammar.proofs.RecordParts.{kind-at}
+use Rattle.grammar.proofs.ReadApart.{refuse-is, refuse-not}
+use Rattle.heads.specs.declared.Heads.{Heads as HeadsStruct}
 
-abbrev pub attribute : Heads → Length
-attribute h = lengthOf (h .given) (h .min) (h .max)
+-- `code` is the fault of the body's own record, after the heads h
+abbrev pub AfterHeads : List ℕ → HeadsStruct → ℕ → Type 0
+AfterHeads t h code = code ≡ ownFault (lengthOf (h .given) (h .min) (h .max)) (drop (h .next) t)
 
 -- the heads and the record of the body are all there, and the items follow
-pub record Front (fam : Family) (t : List ℕ) (h : Heads) : Type 0 where
-  pub reads : templateHere (leavesOf fam) t ≡ mapRead (template (attribute h)) (contents (leavesOf fam) (getD t (h .next) 0) (getD t (h .next + 1) 0) (drop (h .next + 2) t))
-  pub bounds : Bounds (h .given) (h .min) (h .max)
+pub record Front (fam : Family) (t : List ℕ) (h : HeadsStruct) : Type 0 where
+  pub heads : Heads
+  pub reads : templateHere fam t ≡ mapRead (template heads) (contents (leavesIn fam (heads .lower) (heads .upper)) (getD t (h .next) 0) (getD t (h .next + 1) 0) (drop (h .next + 2) t))
+  pub says : Said fam heads h
   pub fits : h .next + 2 ≤ length t
   pub low : 0x10 ≤ getD t (h .next) 0
   pub high : getD t (h .next) 0 ≤ 0x13
   pub few : getD t (h .next + 1) 0 ≤ 32
 
-module _ (fam : Family) (t : List ℕ) (h : Heads) where
-  pub heads-refused : HeadsOf fam t h → (h .code ≡ 0 → ⊥) → templateHere (leavesOf fam) t ≡ refuse (h .code)
-  heads-refused (headsFault q p) n = q
-  heads-refused (headsRead q z i b) n = absurd (n z)
+module _ (fam : Family) (t : List ℕ) (h : HeadsStruct) where
+  -- what follows the heads
+  after : (o : Read Heads) → headsHere fam t ≡ o → templateHere fam t ≡ andThen o (λ a. bodyHere (leavesIn fam (a .lower) (a .upper)) a)
+  unfolding templateHere
+  after o q = ap (λ (u : Read Heads). andThen u (λ a. bodyHere (leavesIn fam (a .lower) (a .upper)) a)) q
 
-  pub heads-inside : HeadsOf fam t h → h .code ≡ 0 → h .next ≤ length t
-  heads-inside (headsFault q p) z = absurd (omega arith)
-  heads-inside (headsRead q z′ i b) z = i
+  no-fault : (code : ℕ) → 0 < code → h .code ≡ code → h .code ≡ 0 → ⊥
+  no-fault code l e z = omega arith
 
-  pub body-refused : (code : ℕ) → HeadsOf fam t h → h .code ≡ 0 → BodyHead fam t (attribute h) (h .next) code → (code ≡ 0 → ⊥) → templateHere (leavesOf fam) t ≡ refuse code
-  body-refused code (headsFault q p) z b n = absurd (omega arith)
-  body-refused code (headsRead q z′ i b) z (bodyFault e p) n = q ∙ e
-  body-refused code (headsRead q z′ i b) z (bodyRead e y f l g m) n = absurd (n y)
+  pub heads-refused : HeadsAt fam t (headsHere fam t) h → (h .code ≡ 0 → ⊥) → templateHere fam t ≡ refuse (h .code)
+  unfolding andThen
+  heads-refused (headsFault code q p e) n = after (refuse code) q ∙ ap (λ (x : HeadsStruct). refuse (x .code)) (sym e)
+  heads-refused (headsRead a q z i s) n = absurd (n z)
 
-  pub front-of : (code : ℕ) → HeadsOf fam t h → h .code ≡ 0 → BodyHead fam t (attribute h) (h .next) code → code ≡ 0 → Front fam t h
-  front-of code (headsFault q p) z b y = absurd (omega arith)
-  front-of code (headsRead q z′ i b) z (bodyFault e p) y = absurd (omega arith)
-  front-of code (headsRead q z′ i b) z (bodyRead e y′ f l g m) y = record { reads = q ∙ e; bounds = b; fits = f; low = l; high = g; few = m }
+  pub heads-inside : HeadsAt fam t (headsHere fam t) h → h .code ≡ 0 → h .next ≤ length t
+  heads-inside (headsFault code q p e) z = absurd (no-fault code p (ap (λ (x : HeadsStruct). x .code) e) z)
+  heads-inside (headsRead a q z′ i s) z = i
+
+  module _ (code : ℕ) (b : AfterHeads t h code) where
+    -- the body after these heads
+    body-after : (a : Heads) → Said fam a h → bodyHere (leavesIn fam (a .lower) (a .upper)) a (drop (h .next) t)
+        ≡ refuseOr code (mapRead (template a) (contents (leavesIn fam (a .lower) (a .upper)) (getD t (h .next) 0) (getD t (h .next + 1) 0) (drop (h .next + 2) t)))
+    body-after a s =
+        let own : ownFault (a .length) (drop (h .next) t) ≡ code = ap (λ (l : Length). ownFault l (drop (h .next) t)) (s .attribute) ∙ sym b in
+        body-by (leavesIn fam (a .lower) (a .upper)) a (drop (h .next) t) ∙ rw (own, kind-at t (h .next), getD-drop (h .next) t 1 0, drop-drop 2 (h .next) t)
+
+    pub body-refused : HeadsAt fam t (headsHere fam t) h → h .code ≡ 0 → (code ≡ 0 → ⊥) → templateHere fam t ≡ refuse code
+    unfolding andThen
+    body-refused (headsFault c q p e) z n = absurd (no-fault c p (ap (λ (x : HeadsStruct). x .code) e) z)
+    body-refused (headsRead a q z′ i s) z n = after _ q ∙ body-after a s ∙ refuse-is code _ n
+
+    pub front-of : HeadsAt fam t (headsHere fam t) h → h .code ≡ 0 → code ≡ 0 → Front fam t h
+    unfolding andThen
+    front-of (headsFault c q p e) z y = absurd (no-fault c p (ap (λ (x : HeadsStruct). x .code) e) z)
+    front-of (headsRead a q z′ i s) z y =
+        let r = own-inv _ t (h .next) (sym b ∙ y) in
+        record { heads = a; reads = after _ q ∙ body-after a s ∙ refuse-not code _ y; says = s; fits = r .fits; low = r .low; high = r .high; few = r .few }
+
+-- the sort that the heads say
+pub front-sorted : (fam : Family) (t : List ℕ) (h : HeadsStruct) (f : Front fam t h) → Sorted fam (f .heads .lower) (f .heads .upper) (h .sort)
+front-sorted fam t h f = let o = f .says .order in said fam (f .heads .lower) (f .heads .upper) (o .0) (o .1) (o .2) (h .sort) (f .says .sort)

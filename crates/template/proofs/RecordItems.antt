@@ -3,11 +3,12 @@ use mathlib.Core.Path.{_≡_, refl, sym, ap, ap₂, _∙_, subst}
 use mathlib.Core.List.{List, [], _∷_, _++_, append-assoc, append-nil}
 use Prim.Native.Nat.{ℕ, zero, suc, _+_, _-_, _*_, _/_, _%_, _≤_, _<_}
 use native.Mathlib.Omega.{arith}
+use lib.IntN.{ℤ}
 use lib.ListN.{length, drop, take, set, replicate, length-append}
 use lib.Seq.{set-at}
 use Rattle.grammar.specs.Template.{grouped, Item, one, spares, permutation, recordOf, membersOfGroup, membersOfItem, membersOfItems, membersOf}
 use Rattle.format.specs.declared.Family.{Family}
-use Rattle.grammar.specs.Family.{LeafOf, leavesOf}
+use Rattle.grammar.specs.Family.{LeafOf, leavesIn}
 use Rattle.grammar.specs.Read.{Read, refuse, got}
 use Rattle.grammar.specs.Whole.{putItem, thenItems, item, items}
 use Rattle.grammar.specs.Blocks.{blockOfGroup, blockOfItem, blocksOfItems, blocksOf, bodyKind, Standing}
@@ -51,7 +52,7 @@ pub record ItemsNotes (fam : Family) (t : List ℕ) (m : ℕ) (before made : Lis
   pub says : blocksIn all ≡ blocksIn made ++ blocksOfItems m is
 
 -- what the items from here on give is what all of them give
-pub record ItemsGoing (fam : Family) (t : List ℕ) (at n : ℕ) (before places blocks : List ℕ) (p m k : ℕ) : Type 0 where
+pub record ItemsGoing (fam : Family) (lo hi : ℤ) (t : List ℕ) (at n : ℕ) (before places blocks : List ℕ) (p m k : ℕ) : Type 0 where
   pub short : length t < 65536
   pub inside : p ≤ length t
   pub size : length places ≡ 32
@@ -60,11 +61,11 @@ pub record ItemsGoing (fam : Family) (t : List ℕ) (at n : ℕ) (before places 
   pub made : List ℕ
   pub stored : blocks ≡ made ++ replicate (32 - k) 0
   pub number : length made ≡ k
-  pub goes : (code next count : ℕ) (after all : List ℕ) → Noted (ItemsNotes fam t m places made count after all) t (items (leavesOf fam) (n - k) m (drop p t)) code next
-      → Noted (ItemsNotes fam t 0 before [] count after all) t (items (leavesOf fam) n 0 (drop at t)) code next
+  pub goes : (code next count : ℕ) (after all : List ℕ) → Noted (ItemsNotes fam t m places made count after all) t (items (leavesIn fam lo hi) (n - k) m (drop p t)) code next
+      → Noted (ItemsNotes fam t 0 before [] count after all) t (items (leavesIn fam lo hi) n 0 (drop at t)) code next
 
-pub items-start : (fam : Family) (t : List ℕ) (at n : ℕ) (before blocks : List ℕ) → length t < 65536 → at ≤ length t → length before ≡ 32 → blocks ≡ replicate 32 0 → ItemsGoing fam t at n before before blocks at 0 0
-items-start fam t at n before blocks b i z e = record {
+pub items-start : (fam : Family) (lo hi : ℤ) (t : List ℕ) (at n : ℕ) (before blocks : List ℕ) → length t < 65536 → at ≤ length t → length before ≡ 32 → blocks ≡ replicate 32 0 → ItemsGoing fam lo hi t at n before before blocks at 0 0
+items-start fam lo hi t at n before blocks b i z e = record {
   short = b;
   inside = i;
   size = z;
@@ -78,16 +79,16 @@ items-start fam t at n before blocks b i z e = record {
       rw whole at s;
 }
 
-module _ {fam : Family} {t : List ℕ} {at n : ℕ} {before places blocks : List ℕ} {p m k : ℕ} (g : ItemsGoing fam t at n before places blocks p m k) where
+module _ {fam : Family} {lo hi : ℤ} {t : List ℕ} {at n : ℕ} {before places blocks : List ℕ} {p m k : ℕ} (g : ItemsGoing fam lo hi t at n before places blocks p m k) where
   module _ (some : k < n) where
-    items-open : (o : Read (Item (LeafOf fam))) → item (leavesOf fam) m (drop p t) ≡ o → items (leavesOf fam) (n - k) m (drop p t) ≡ thenItems m o (items (leavesOf fam) (n - (k + 1)))
+    items-open : (o : Read (Item (LeafOf fam))) → item (leavesIn fam lo hi) m (drop p t) ≡ o → items (leavesIn fam lo hi) (n - k) m (drop p t) ≡ thenItems m o (items (leavesIn fam lo hi) (n - (k + 1)))
     unfolding items
     items-open o q =
         let next : n - k ≡ suc (n - (k + 1)) = omega arith in
-        ap (λ (j : ℕ). items (leavesOf fam) j m (drop p t)) next ∙ ap (λ (v : Read (Item (LeafOf fam))). thenItems m v (items (leavesOf fam) (n - (k + 1)))) q
+        ap (λ (j : ℕ). items (leavesIn fam lo hi) j m (drop p t)) next ∙ ap (λ (v : Read (Item (LeafOf fam))). thenItems m v (items (leavesIn fam lo hi) (n - (k + 1)))) q
 
-    pub items-stop : {P : Item (LeafOf fam) → Type 0} {Tells : List (Item (LeafOf fam)) → Type 0} {code place next : ℕ} → Noted P t (item (leavesOf fam) m (drop p t)) code place → 0 < code
-        → Noted Tells t (items (leavesOf fam) n 0 (drop at t)) code next
+    pub items-stop : {P : Item (LeafOf fam) → Type 0} {Tells : List (Item (LeafOf fam)) → Type 0} {code place next : ℕ} → Noted P t (item (leavesIn fam lo hi) m (drop p t)) code place → 0 < code
+        → Noted Tells t (items (leavesIn fam lo hi) n 0 (drop at t)) code next
     unfolding thenItems
     items-stop {code = code} s l =
         let w = noted-stopped _ _ _ _ _ s l in
@@ -111,12 +112,12 @@ module _ {fam : Family} {t : List ℕ} {at n : ℕ} {before places blocks : List
         }) j
 
     pub items-more : {next v : ℕ} {places′ : List ℕ} → n ≤ 32 → length places′ ≡ 32 → next ≤ 16777215
-        → Noted (ItemNotes fam t m places v places′) t (item (leavesOf fam) m (drop p t)) (faultIn next) next → (m′ : ℕ) → m′ ≡ m + blockIn v .k → ItemsGoing fam t at n before places′ (set blocks k v) next m′ (k + 1)
+        → Noted (ItemNotes fam t m places v places′) t (item (leavesIn fam lo hi) m (drop p t)) (faultIn next) next → (m′ : ℕ) → m′ ≡ m + blockIn v .k → ItemsGoing fam lo hi t at n before places′ (set blocks k v) next m′ (k + 1)
     unfolding thenItems
     items-more {next = next} {v = v} {places′ = places′} limit size low s m′ e =
         let w = noted-read _ _ _ _ _ s (omega arith) in
         let c : m′ ≡ m + length (membersOfItem (w .0)) = e ∙ ap (λ (b : Block). m + b .k) (w .2 .says .1) ∙ ap (λ (j : ℕ). m + j) (item-counts fam m (w .0)) in
-        let few = item-limit (leavesOf fam) m (drop p t) (w .0) (drop next t) (g .few) (w .1) in
+        let few = item-limit (leavesIn fam lo hi) m (drop p t) (w .0) (drop next t) (g .few) (w .1) in
         record {
           short = g .short;
           inside = w .3;
@@ -130,10 +131,10 @@ module _ {fam : Family} {t : List ℕ} {at n : ℕ} {before places blocks : List
               g .goes code next′ count′ after all
               (noted-as (items-open (got (w .0) (drop next t)) (w .1))
               (put-item (w .0) v places′ _ code next′ count′ after all (w .2)
-              (subst (λ (j : ℕ). Noted (ItemsNotes fam t j places′ (g .made ++ v ∷ []) count′ after all) t (items (leavesOf fam) (n - (k + 1)) j (drop next t)) code next′) c h)));
+              (subst (λ (j : ℕ). Noted (ItemsNotes fam t j places′ (g .made ++ v ∷ []) count′ after all) t (items (leavesIn fam lo hi) (n - (k + 1)) j (drop next t)) code next′) c h)));
         }
 
-  pub items-end : n ≤ k → n ≤ 32 → (r : ℕ) → r ≡ p + m * 65536 → Noted (RecordNotes fam t n (countIn r) blocks places) t (items (leavesOf fam) n 0 (drop at t)) (faultIn r) (placeIn r)
+  pub items-end : n ≤ k → n ≤ 32 → (r : ℕ) → r ≡ p + m * 65536 → Noted (RecordNotes fam t n (countIn r) blocks places) t (items (leavesIn fam lo hi) n 0 (drop at t)) (faultIn r) (placeIn r)
   unfolding items membersOfItems blocksOfItems numbersOf blocksIn blocksOf bodyKind membersOf Standing
   items-end done limit r e =
       let none : n - k ≡ 0 = omega arith in
@@ -146,7 +147,7 @@ module _ {fam : Family} {t : List ℕ} {at n : ℕ} {before places blocks : List
       let sound : faultIn r ≡ 0 = omega arith in
       let w = noted-read _ _ _ _ _
       (g .goes 0 p m places (g .made)
-      (subst (λ (j : ℕ). Noted (ItemsNotes fam t m places (g .made) m places (g .made)) t (items (leavesOf fam) j m (drop p t)) 0 p) (sym none)
+      (subst (λ (j : ℕ). Noted (ItemsNotes fam t m places (g .made) m places (g .made)) t (items (leavesIn fam lo hi) j m (drop p t)) 0 p) (sym none)
       (noted [] refl refl (record { placed = placed-none fam t m places; cut = sym (append-nil (g .made)); says = sym (append-nil (blocksIn (g .made))) }) (g .inside)))) refl in
       let long : length (g .made) ≡ n = g .number ∙ turns in
       noted (w .0) (w .1 ∙ ap (λ (q : ℕ). got (w .0) (drop q t)) (sym place)) sound

@@ -3,7 +3,7 @@ ghost use mathlib.Core.Path.{_≡_};
 ghost use Prim.Native.Nat.{_≤_};
 ghost use lib.Dec.{eqb};
 ghost use lib.ListN.{length, drop, replicate};
-ghost use Rattle.grammar.specs.Family.{leavesOf};
+ghost use Rattle.sorts.specs.Sorts.{familyOf, leavesFor};
 ghost use Rattle.grammar.specs.Template.{noStar};
 ghost use Rattle.grammar.specs.Whole.{members, items, contents};
 ghost use Rattle.elements.specs.Contract.{faultIn, placeIn, countIn, Place, Noted};
@@ -11,7 +11,6 @@ ghost use Rattle.template.specs.Bodies.{RecordNotes, SetNotes, BodyNotes
 use blocks::Block;
 use blocks::block_of;
 use blocks::number_of;
-use elements::Sort;
 use format::FAULT;
 use format::INFINITY;
 use format::ONE_MORE;
@@ -20,6 +19,7 @@ use format::SET_OF;
 use format::SUPERSET;
 use items::group::group_end;
 use items::item::item_end;
+use sorts::Sort;
 
 // The n items of a record of at `at`: a block for each.
 fn items_end(
@@ -31,7 +31,7 @@ fn items_end(
     blocks: &mut [u32; 32],
 ) -> usize
     requires { ⌜ Place (now t) at × (n ≤ 32) × (length (now places) ≡ 32) × (now blocks ≡ replicate 32 0) ⌝ }
-    ensures { λ r. ⌜ Noted (RecordNotes (sort .family) (now (t .entry)) n (countIn r) (now (blocks .exit)) (now (places .exit))) (now (t .entry)) (items (leavesOf (sort .family)) n 0 (drop at (now (t .entry)))) (faultIn r) (placeIn r) ⌝ }
+    ensures { λ r. ⌜ Noted (RecordNotes (familyOf sort) (now (t .entry)) n (countIn r) (now (blocks .exit)) (now (places .exit))) (now (t .entry)) (items (leavesFor sort) n 0 (drop at (now (t .entry)))) (faultIn r) (placeIn r) ⌝ }
 {
     let mut p = at;
     let mut m: usize = 0;
@@ -61,7 +61,7 @@ fn set_end(
     blocks: &mut [u32; 32],
 ) -> usize
     requires { ⌜ Place (now t) at × (0x11 ≤ kind) × (kind ≤ 0x13) × (length (now places) ≡ 32) × (now blocks ≡ replicate 32 0) ⌝ }
-    ensures { λ r. ⌜ Noted (SetNotes (sort .family) (now (t .entry)) kind n (countIn r) (now (blocks .exit)) (now (places .exit))) (now (t .entry)) (members (leavesOf (sort .family)) (eqb kind 0x11) n 0 noStar (drop at (now (t .entry)))) (faultIn r) (placeIn r) ⌝ }
+    ensures { λ r. ⌜ Noted (SetNotes (familyOf sort) (now (t .entry)) kind n (countIn r) (now (blocks .exit)) (now (places .exit))) (now (t .entry)) (members (leavesFor sort) (eqb kind 0x11) n 0 noStar (drop at (now (t .entry)))) (faultIn r) (placeIn r) ⌝ }
 {
     let mut number: u32 = 0;
     let end = group_end(t, at, n, 0, kind == SET_OF, sort, places, &mut number);
@@ -90,7 +90,7 @@ pub fn contents_end(
     blocks: &mut [u32; 32],
 ) -> usize
     requires { ⌜ Place (now t) at × (0x10 ≤ kind) × (kind ≤ 0x13) × (n ≤ 32) × (length (now places) ≡ 32) × (now blocks ≡ replicate 32 0) ⌝ }
-    ensures { λ r. ⌜ Noted (BodyNotes (sort .family) (now (t .entry)) kind n (countIn r) (now (blocks .exit)) (now (places .exit))) (now (t .entry)) (contents (leavesOf (sort .family)) kind n (drop at (now (t .entry)))) (faultIn r) (placeIn r) ⌝ }
+    ensures { λ r. ⌜ Noted (BodyNotes (familyOf sort) (now (t .entry)) kind n (countIn r) (now (blocks .exit)) (now (places .exit))) (now (t .entry)) (contents (leavesFor sort) kind n (drop at (now (t .entry)))) (faultIn r) (placeIn r) ⌝ }
 {
     if kind == RECORD_OF {
         return items_end(t, at, n, sort, places, blocks);

@@ -5,7 +5,6 @@ use Prim.Native.Nat.{ℕ, _<_}
 use native.Mathlib.Omega.{arith}
 use Rattle.grammar.specs.Template.{template}
 use Rattle.format.specs.declared.Family.{Family}
-use Rattle.grammar.specs.Family.{leavesOf}
 use Rattle.grammar.specs.Read.{refuse}
 use Rattle.grammar.specs.Whole.{readTemplate}
 use Rattle.elements.specs.Contract.{Answered, rejected, accepted}
@@ -18,7 +17,7 @@ use Rattle.template.proofs.scan_template.Reads as reads
 use Rattle.template.proofs.scan_template.Lts as lts
 use Rattle.template.proofs.plan_of.Reads as plan-of-reads
 
-plan-answered : (fam : Family) (t : List ℕ) (p : Plan) → PlanOf fam t p → Answered (readTemplate (leavesOf fam) t) (p .number)
+plan-answered : (fam : Family) (t : List ℕ) (p : Plan) → PlanOf fam t p → Answered (readTemplate fam t) (p .number)
 plan-answered fam t p (refusedPlan number q l e) = let same : p .number ≡ number = ap (λ (x : Plan). x .number) e in rejected (q ∙ ap refuse (sym same)) (omega arith)
 plan-answered fam t p (aPlan a b q z w) = accepted (template a b) q z
 

@@ -1,5 +1,6 @@
 -- `template::body::contents_end` meets its contract: the kind says whether each item is a block, or all are one. Assumes nothing.
 use Rattle.template.proofs.Bodies.{record-noted, group-noted}
+use Rattle.sorts.specs.Sorts.{familyOf, lowerOf, upperOf}
 use borrow.Author.Needs.{needs}
 use Rattle.template.proofs.body.contents_end.Statement.{statement}
 use Rattle.template.proofs.body.contents_end.Tie as tie
@@ -14,7 +15,7 @@ items-end-requires c κs = search needs
 returns : tie.Need-returns
 returns c =
     let a = c .before .before .before .before .before .args in
-    record-noted (a .sort .family) (a .kind) (a .n) (a .t .now) (a .at) _ _ _ (c .before .before .before .if1 .taken) (c .items-end .ensures)
+    record-noted (familyOf (a .sort)) (lowerOf (a .sort)) (upperOf (a .sort)) (a .kind) (a .n) (a .t .now) (a .at) _ _ _ (c .before .before .before .if1 .taken) (c .items-end .ensures)
 
 set-end-requires : tie.Need-set-end-requires
 set-end-requires c κs = search needs
@@ -22,7 +23,7 @@ set-end-requires c κs = search needs
 returns-2 : tie.Need-returns-2
 returns-2 c =
     let a = c .before .before .before .before .before .args in
-    group-noted (a .sort .family) (a .kind) (a .n) (a .t .now) (a .at) _ _ _ (c .before .before .before .if1 .left) (c .set-end .ensures)
+    group-noted (familyOf (a .sort)) (lowerOf (a .sort)) (upperOf (a .sort)) (a .kind) (a .n) (a .t .now) (a .at) _ _ _ (c .before .before .before .if1 .left) (c .set-end .ensures)
 
 pub contents-end-spec : {M : Type 1} → statement M
 contents-end-spec = tie.close (tie.spec items-end-requires returns set-end-requires returns-2)

@@ -3,6 +3,7 @@
 use mathlib.Core.Path.{refl, ap}
 use Prim.Native.Nat.{ℕ, _+_, _-_}
 use native.Mathlib.Omega.{arith}
+use Rattle.sorts.specs.Sorts.{familyOf, lowerOf, upperOf}
 use borrow.Author.Needs.{needs}
 use Rattle.blocks.specs.declared.Block.{Block}
 use Rattle.template.proofs.RecordItems.{ItemsGoing, items-start, items-stop, items-more, items-end}
@@ -14,7 +15,7 @@ use Rattle.blocks.proofs.block_of.Reads as block-of-reads
 use Rattle.items.proofs.item.item_end.Reads as item-end-reads
 
 abbrev Inv-loop : tie.InvT-loop
-Inv-loop t at n sort places₀ blocks₀ p₀ m₀ k₀ places blocks p m k = ItemsGoing (sort .family) t at n places₀ places blocks p m k
+Inv-loop t at n sort places₀ blocks₀ p₀ m₀ k₀ places blocks p m k = ItemsGoing (familyOf sort) (lowerOf sort) (upperOf sort) t at n places₀ places blocks p m k
 
 abbrev μ-loop : tie.MeasureT-loop
 μ-loop t at n sort places₀ blocks₀ p₀ m₀ k₀ places blocks p m k = n - k
@@ -23,7 +24,7 @@ loop-holds : tie.Need-loop-holds Inv-loop μ-loop
 loop-holds c =
     let w = c .before .pre in
     let a = c .before .args in
-    items-start (a .sort .family) (a .t .now) (a .at) (a .n) _ _ (w .0 .1) (w .0 .0) (w .2) (w .3)
+    items-start (familyOf (a .sort)) (lowerOf (a .sort)) (upperOf (a .sort)) (a .t .now) (a .at) (a .n) _ _ (w .0 .1) (w .0 .0) (w .2) (w .3)
 
 item-end-requires : tie.Need-item-end-requires Inv-loop μ-loop
 item-end-requires c κs =

@@ -5,6 +5,7 @@ use native.Mathlib.Omega.{arith}
 use Rattle.blocks.specs.declared.Block.{Block}
 use Rattle.items.proofs.MemberPlaces.{stopped-on}
 use Rattle.template.proofs.Bodies.{set-noted}
+use Rattle.sorts.specs.Sorts.{familyOf, lowerOf, upperOf}
 use borrow.Author.Needs.{needs}
 use Rattle.template.proofs.body.set_end.Statement.{statement}
 use Rattle.template.proofs.body.set_end.Tie as tie
@@ -45,7 +46,7 @@ returns-2 c =
     let read = told .before .before in
     let start = read .before .before .before .before in
     let a = start .args in
-    set-noted (a .sort .family) (a .kind) (start .pre .1) (start .pre .2) (told .block-of .result .k) (told .block-of .result .min) (told .block-of .result .max) (max .max)
+    set-noted (familyOf (a .sort)) (lowerOf (a .sort)) (upperOf (a .sort)) (a .kind) (start .pre .1) (start .pre .2) (told .block-of .result .k) (told .block-of .result .min) (told .block-of .result .max) (max .max)
     (λ k. ⊎-elim (λ v. v .1) (λ v. absurd (v .0 .left k)) (max .came))
     (λ k. ⊎-elim (λ v. absurd (k (v .0 .taken))) (λ v. v .1) (max .came))
     (a .t .now) (a .at) (a .n) _ _ _ _ _ (ap (λ (b : Block). b .k) (told .block-of .ensures)) (ap (λ (b : Block). b .min) (told .block-of .ensures)) (ap (λ (b : Block). b .max) (told .block-of .ensures)) (c .before .number-of .ensures) (start .pre .4) _ _ (start .pre .0 .1) (told .before .if1 .left) refl (read .group-end .ensures .0)
