@@ -20,8 +20,8 @@ use Rattle.blocks.specs.Pieces.{Inside, Best}
 use Rattle.blocks.proofs.FirstLists.{best-same}
 use Rattle.grammar.specs.Element.{Elem}
 use Rattle.format.specs.declared.Family.{Family}
-use Rattle.grammar.specs.Family.{LeafOf, leavesOf, ElementOf, noElement, matchesOf}
-use Rattle.grammar.specs.Template.{Item, grouped, one, spares, permutation, Body, recordOf, setOf, superset, subset, Length, anyLength, between, Template, template, membersOfGroup, membersOfItem, membersOfItems, membersOf}
+use Rattle.grammar.specs.Family.{LeafOf, ElementOf, noElement, matchesOf}
+use Rattle.grammar.specs.Template.{Item, grouped, one, spares, permutation, Body, recordOf, setOf, superset, subset, Length, anyLength, between, Heads, Template, template, membersOfGroup, membersOfItem, membersOfItems, membersOf}
 use Rattle.grammar.specs.Read.{Read, refuse, got}
 use Rattle.grammar.specs.Whole.{readTemplate}
 use Rattle.grammar.specs.Members.{memberHits}
@@ -38,21 +38,21 @@ use Rattle.witnesses.specs.ByKind.{Allows, OneBlock}
 -- ---- the plan of accepted bytes
 
 pub record Ready (fam : Family) (t : List ℕ) (p : Plan) (n : ℕ) : Type 0 where
-  pub attribute : Length
+  pub heads : Heads
   pub body : Body (LeafOf fam)
-  pub accepted : readTemplate (leavesOf fam) t ≡ got (template attribute body) []
-  pub planned : Planned fam t attribute body p
+  pub accepted : readTemplate fam t ≡ got (template heads body) []
+  pub planned : Planned fam t heads body p
   pub short : n ≤ 32
 
 pub planned-ready : (fam : Family) (t : List ℕ) (p : Plan) (n : ℕ) → PlanOf fam t p → p .number ≡ 0 → n ≤ 32 → Ready fam t p n
 planned-ready fam t p n (refusedPlan number q z e) h l = let s : p .number ≡ number = cc in absurd (omega arith)
-planned-ready fam t p n (aPlan a b q z pl) h l = record { attribute = a; body = b; accepted = q; planned = pl; short = l }
+planned-ready fam t p n (aPlan a b q z pl) h l = record { heads = a; body = b; accepted = q; planned = pl; short = l }
 
 few : {fam : Family} {t : List ℕ} {p : Plan} {n : ℕ} (r : Ready fam t p n) → length (membersOf (r .body)) ≤ 32
 few r = let s = r .planned .size in let f = r .planned .fewMembers in omega arith
 
 pub ready-members : {fam : Family} {t : List ℕ} {p : Plan} {n : ℕ} → Ready fam t p n → MembersAt fam t (p .places) (p .members)
-ready-members {fam} {t} r = record { few = r .planned .fewMembers; short = let l = accepted-short (leavesOf fam) t (template (r .attribute) (r .body)) (r .accepted) in omega arith; who = membersOf (r .body); size = r .planned .size; stands = r .planned .stands }
+ready-members {fam} {t} r = record { few = r .planned .fewMembers; short = let l = accepted-short fam t (template (r .heads) (r .body)) (r .accepted) in omega arith; who = membersOf (r .body); size = r .planned .size; stands = r .planned .stands }
 
 -- ---- every block's members are below 32
 
@@ -97,15 +97,15 @@ unfolding lengthMet
 length-is anyLength n l = both (leb 0 n) (leb n 255) (le-leb 0 n (omega arith)) (le-leb n 255 (omega arith))
 length-is (between min max) n l = refl
 
-pub length-by : (fam : Family) (t : List ℕ) (p : Plan) (n : ℕ) → n ≤ 32 → (met : Bool) → met ≡ (leb (p .low) n && leb n (p .high)) → (a : Length) (b : Body (LeafOf fam)) → Planned fam t a b p → met ≡ lengthMet a n
-length-by fam t p n short met says a b pl = says ∙ rw (pl .lower, pl .upper) (length-is a n short)
+pub length-by : (fam : Family) (t : List ℕ) (p : Plan) (n : ℕ) → n ≤ 32 → (met : Bool) → met ≡ (leb (p .low) n && leb n (p .high)) → (h : Heads) (b : Body (LeafOf fam)) → Planned fam t h b p → met ≡ lengthMet (h .length) n
+length-by fam t p n short met says h b pl = says ∙ rw (pl .lower, pl .upper) (length-is (h .length) n short)
 
-pub unmet-none : (fam : Family) (a : Length) (b : Body (LeafOf fam)) (xs : List (ElementOf fam)) → lengthMet a (length xs) ≡ false → (v : List ℕ) → Obeys fam (template a b) xs v → ⊥
+pub unmet-none : (fam : Family) (h : Heads) (b : Body (LeafOf fam)) (xs : List (ElementOf fam)) → lengthMet (h .length) (length xs) ≡ false → (v : List ℕ) → Obeys fam (template h b) xs v → ⊥
 unfolding obeysBy
-unmet-none fam a b xs m v o =
+unmet-none fam h b xs m v o =
     let r = rightBytes (matchesOf fam) (membersOf b) xs v in
     let n = noneTwice (length (membersOf b)) v in
-    let l = lengthMet a (length xs) in
+    let l = lengthMet (h .length) (length xs) in
     clash (and-right (bodyMet b v) l (and-right n (bodyMet b v && l) (and-right r (n && (bodyMet b v && l)) o))) m
 
 -- ---- from the kind, the blocks and the members to the rules
@@ -149,7 +149,7 @@ ready-alone {fam} {t} {p} r = let pl = r .planned in record { alone = λ n10 n13
 
 -- ---- the first witness
 
-module _ {fam : Family} {t : List ℕ} {p : Plan} (xs : List (ElementOf fam)) (r : Ready fam t p (length xs)) (met : lengthMet (r .attribute) (length xs) ≡ true) where
+module _ {fam : Family} {t : List ℕ} {p : Plan} (xs : List (ElementOf fam)) (r : Ready fam t p (length xs)) (met : lengthMet (r .heads .length) (length xs) ≡ true) where
   abbrev related : ℕ → ℕ → Bool
   related = pairOf fam (membersOf (r .body)) xs
 
@@ -159,12 +159,12 @@ module _ {fam : Family} {t : List ℕ} {p : Plan} (xs : List (ElementOf fam)) (r
   agrees : Agree (matchesOf fam) (membersOf (r .body)) 0 xs related
   agrees = agree-from fam (membersOf (r .body)) related 0 xs (λ m i l. rw (zero-add i) refl)
 
-  there : (v : List ℕ) → ByBlocks (r .body) related (length xs) v → Obeys fam (template (r .attribute) (r .body)) xs v
-  there v c = obeys-test (matchesOf fam) (r .attribute) (r .body) related xs agrees (few r) (r .short) v c met
+  there : (v : List ℕ) → ByBlocks (r .body) related (length xs) v → Obeys fam (template (r .heads) (r .body)) xs v
+  there v c = obeys-test (matchesOf fam) (r .heads) (r .body) related xs agrees (few r) (r .short) v c met
 
-  back : (v : List ℕ) → Obeys fam (template (r .attribute) (r .body)) xs v → ByBlocks (r .body) related (length xs) v
-  back v o = obeys-says (matchesOf fam) (r .attribute) (r .body) related xs agrees (few r) (r .short) v o .0
+  back : (v : List ℕ) → Obeys fam (template (r .heads) (r .body)) xs v → ByBlocks (r .body) related (length xs) v
+  back v o = obeys-says (matchesOf fam) (r .heads) (r .body) related xs agrees (few r) (r .short) v o .0
 
   pub best-by : {found : Bool} {w : List ℕ} → ((es : List (Elem (LeafOf fam))) → Standing fam t es (take (p .members) (p .places)) → Best (Allows (p .kind) (blocksIn (take (p .count) (p .blocks))) (p .members) (pairOf fam es xs) (length xs)) (length xs) found w)
-      → Best (Obeys fam (template (r .attribute) (r .body)) xs) (length xs) found w
+      → Best (Obeys fam (template (r .heads) (r .body)) xs) (length xs) found w
   best-by {found} {w} h = best-same there back (allowed (λ P. Best P (length xs) found w) (h (membersOf (r .body)) (r .planned .stands)))

@@ -14,7 +14,7 @@ use Rattle.blocks.specs.Numbers.{blocksIn}
 use Rattle.grammar.specs.Element.{Elem}
 use Rattle.format.specs.declared.Family.{Family}
 use Rattle.grammar.specs.Family.{LeafOf, ElementOf, noElement, matchesOf}
-use Rattle.grammar.specs.Template.{template, Length, Body, membersOf}
+use Rattle.grammar.specs.Template.{template, Heads, Body, membersOf}
 use Rattle.grammar.specs.Members.{memberHits}
 use Rattle.grammar.specs.Blocks.{Standing}
 use Rattle.grammar.proofs.Members.{hits-low}
@@ -27,6 +27,7 @@ use Rattle.matching.specs.Answer.{judgeAnswer, Taken}
 use Rattle.matching.proofs.Answers.{judged}
 use Rattle.matching.proofs.RulesByBlocks.{twice-test, twice-says}
 use Rattle.matcher.proofs.ByPlan.{Ready, planned-ready, length-by}
+use Rattle.matcher.proofs.Inside.{Passed}
 
 -- ---- the bytes, one by one
 
@@ -52,7 +53,7 @@ right-bytes fam es (x ∷ xs) (b ∷ w) h (suc e) l = right-bytes fam es xs w (a
 
 -- ---- all pairs
 
-module _ (fam : Family) (a : Length) (b : Body (LeafOf fam)) (xs : List (ElementOf fam)) (w : List ℕ) (size : length w ≡ length xs) where
+module _ (fam : Family) (a : Heads) (b : Body (LeafOf fam)) (xs : List (ElementOf fam)) (w : List ℕ) (size : length w ≡ length xs) where
   abbrev es : List (Elem (LeafOf fam))
   es = membersOf b
 
@@ -60,18 +61,18 @@ module _ (fam : Family) (a : Length) (b : Body (LeafOf fam)) (xs : List (Element
   pub obeys-right : Obeys fam (template a b) xs w → Right fam es xs w
   unfolding obeysBy
   obeys-right o =
-      let rest = noneTwice (length es) w && (bodyMet b w && lengthMet a (length xs)) in
+      let rest = noneTwice (length es) w && (bodyMet b w && lengthMet (a .length) (length xs)) in
       record {
         bytes = right-bytes fam es xs w (and-left (rightBytes (matchesOf fam) es xs w) rest o);
-        once = twice-says (length es) w (and-left (noneTwice (length es) w) (bodyMet b w && lengthMet a (length xs)) (and-right (rightBytes (matchesOf fam) es xs w) rest o));
+        once = twice-says (length es) w (and-left (noneTwice (length es) w) (bodyMet b w && lengthMet (a .length) (length xs)) (and-right (rightBytes (matchesOf fam) es xs w) rest o));
       }
 
   -- where the pairs are right and the length is met, what the body asks is left
-  pub right-obeys : Right fam es xs w → lengthMet a (length xs) ≡ true → obeys fam (template a b) xs w ≡ bodyMet b w
+  pub right-obeys : Right fam es xs w → lengthMet (a .length) (length xs) ≡ true → obeys fam (template a b) xs w ≡ bodyMet b w
   unfolding obeysBy
   right-obeys r met =
-      ap (λ (v : Bool). v && (noneTwice (length es) w && (bodyMet b w && lengthMet a (length xs)))) (bytes-right fam es xs w size (r .bytes))
-      ∙ ap (λ (v : Bool). v && (bodyMet b w && lengthMet a (length xs))) (twice-test (length es) w (r .once))
+      ap (λ (v : Bool). v && (noneTwice (length es) w && (bodyMet b w && lengthMet (a .length) (length xs)))) (bytes-right fam es xs w size (r .bytes))
+      ∙ ap (λ (v : Bool). v && (bodyMet b w && lengthMet (a .length) (length xs))) (twice-test (length es) w (r .once))
       ∙ ap (λ (v : Bool). bodyMet b w && v) met ∙ and-true (bodyMet b w)
     where
       and-true : (v : Bool) → (v && true) ≡ v
@@ -102,18 +103,18 @@ module _ (fam : Family) (a : Length) (b : Body (LeafOf fam)) (xs : List (Element
   pub judged-wrong : (r : ℕ) → length es ≤ 32 → r ≡ 4294967296 → Paired fam es xs w r → obeys fam (template a b) xs w ≡ false
   judged-wrong r few z p = not-so (obeys fam (template a b) xs w) (λ o. wrong-pairs r few z p (obeys-right o))
 
-  pub judged-right : (r : ℕ) (met : Bool) → length es ≤ 32 → lengthMet a (length xs) ≡ true → (r ≡ 4294967296 → ⊥) → Paired fam es xs w r → (Spread b w r → met ≡ bodyMet b w) → met ≡ obeys fam (template a b) xs w
+  pub judged-right : (r : ℕ) (met : Bool) → length es ≤ 32 → lengthMet (a .length) (length xs) ≡ true → (r ≡ 4294967296 → ⊥) → Paired fam es xs w r → (Spread b w r → met ≡ bodyMet b w) → met ≡ obeys fam (template a b) xs w
   judged-right r met few l n p says = let u = right-pairs r n p in says (right-spread r few (u .0) (u .1)) ∙ sym (right-obeys (u .0) l)
 
 -- ---- the judge
 
-module _ (fam : Family) (t : List ℕ) (xs : List (ElementOf fam)) (taken : Taken t xs) (p : Plan) (plan : PlanOf fam t p) (zero-number : p .number ≡ 0) (met : Bool) (says : met ≡ (leb (p .low) (length xs) && leb (length xs) (p .high))) (so : met ≡ true)
+module _ (fam : Family) (t : List ℕ) (xs : List (ElementOf fam)) (taken : Taken t xs) (p : Plan) (plan : PlanOf fam t p) (passed : Passed fam t p xs) (met : Bool) (says : met ≡ (leb (p .low) (length xs) && leb (length xs) (p .high))) (so : met ≡ true)
     (w : List ℕ) (size : length w ≡ length xs) (left : ℕ) (paired : (es : List (Elem (LeafOf fam))) → Standing fam t es (take (p .members) (p .places)) → Paired fam es xs w left) where
   ready : Ready fam t p (length xs)
-  ready = planned-ready fam t p (length xs) plan zero-number (taken .1)
+  ready = planned-ready fam t p (length xs) plan (passed .zero) (taken .1)
 
-  length-so : lengthMet (ready .attribute) (length xs) ≡ true
-  length-so = sym (length-by fam t p (length xs) (taken .1) met says (ready .attribute) (ready .body) (ready .planned)) ∙ so
+  length-so : lengthMet (ready .heads .length) (length xs) ≡ true
+  length-so = sym (length-by fam t p (length xs) (taken .1) met says (ready .heads) (ready .body) (ready .planned)) ∙ so
 
   few-members : length (membersOf (ready .body)) ≤ 32
   few-members = let s = ready .planned .size in let f = ready .planned .fewMembers in omega arith
@@ -121,12 +122,12 @@ module _ (fam : Family) (t : List ℕ) (xs : List (ElementOf fam)) (taken : Take
   pairs : Paired fam (membersOf (ready .body)) xs w left
   pairs = paired (membersOf (ready .body)) (ready .planned .stands)
 
-  answer : (r : Bool) → r ≡ obeys fam (template (ready .attribute) (ready .body)) xs w → cond r 0 1 ≡ judgeAnswer fam t xs w
-  answer r h = ap (λ (v : Bool). cond v 0 1) h ∙ sym (judged fam t xs w (template (ready .attribute) (ready .body)) taken size (ready .accepted))
+  answer : (r : Bool) → r ≡ obeys fam (template (ready .heads) (ready .body)) xs w → cond r 0 1 ≡ judgeAnswer fam t xs w
+  answer r h = ap (λ (v : Bool). cond v 0 1) h ∙ sym (judged fam t xs w (template (ready .heads) (ready .body)) taken size (ready .accepted) (passed .inside (ready .heads) (ready .body) (ready .accepted)))
 
   pub judge-wrong : left ≡ 4294967296 → 1 ≡ judgeAnswer fam t xs w
-  judge-wrong z = answer false (sym (judged-wrong fam (ready .attribute) (ready .body) xs w size left few-members z pairs))
+  judge-wrong z = answer false (sym (judged-wrong fam (ready .heads) (ready .body) xs w size left few-members z pairs))
 
   pub judge-right : (left ≡ 4294967296 → ⊥) → (r : Bool) → ((b : Body (LeafOf fam)) → Says (p .kind) (blocksIn (take (p .count) (p .blocks))) b → Spread b w left → r ≡ bodyMet b w) → cond r 0 1 ≡ judgeAnswer fam t xs w
   judge-right n r h =
-      answer r (judged-right fam (ready .attribute) (ready .body) xs w size left r few-members length-so n pairs (h (ready .body) (record { kind-is = ready .planned .kind; cut = ready .planned .cut })))
+      answer r (judged-right fam (ready .heads) (ready .body) xs w size left r few-members length-so n pairs (h (ready .body) (record { kind-is = ready .planned .kind; cut = ready .planned .cut })))

@@ -13,75 +13,73 @@ use Rattle.blocks.specs.Numbers.{blocksIn}
 use Rattle.blocks.specs.Pieces.{Best}
 use Rattle.grammar.specs.Element.{Elem}
 use Rattle.format.specs.declared.Family.{Family}
-use Rattle.grammar.specs.Family.{LeafOf, leavesOf, ElementOf}
+use Rattle.grammar.specs.Family.{LeafOf, ElementOf}
 use Rattle.grammar.specs.Template.{Template, template}
 use Rattle.grammar.specs.Read.{got}
 use Rattle.grammar.specs.Whole.{readTemplate}
 use Rattle.grammar.specs.Blocks.{Standing}
 use Rattle.plans.specs.declared.Plan.{Plan}
-use Rattle.plans.specs.Plans.{PlanOf, refusedPlan, aPlan}
+use Rattle.plans.specs.Plans.{PlanOf}
 use Rattle.records.specs.Records.{pairOf}
 use Rattle.witnesses.specs.ByKind.{Allows}
 use Rattle.matching.specs.Obeys.{lengthMet, obeys, Obeys}
-use Rattle.matching.specs.Answer.{given, written, matchRead, matchAnswer, judgeRead, judgeAnswer, Taken}
+use Rattle.matching.specs.Answer.{given, written, elementOutside, matchAnswer, judgeRead, judgeAnswer, Taken}
 use Rattle.matching.proofs.FirstWitness.{witness-first}
-use Rattle.matching.proofs.Answers.{few-members, reads, unmatched-where, refused-where, judges, judged}
+use Rattle.matching.proofs.Answers.{few-members, accepted, unmatched-where, refused-where, outside-where, judges, judged, judged-outside}
 use Rattle.matcher.proofs.ByPlan.{Ready, planned-ready, length-by, unmet-none, best-by}
+use Rattle.matcher.proofs.Inside.{Passed, Stopped, ownRefusal, outsideType}
 
 -- the first of the lists that obey is the answer's witness
-matched-first : (fam : Family) (t : List ℕ) (xs : List (ElementOf fam)) (room : List ℕ) (s : Template (LeafOf fam)) → Taken t xs → length xs ≤ length room → readTemplate (leavesOf fam) t ≡ got s []
-    → (w : List ℕ) → First (Obeys fam s xs) w → length w ≡ length xs → matchAnswer fam t xs room ≡ given 0 (w ++ drop (length xs) room)
-unfolding matchRead written
-matched-first fam t xs room s k l q w f z =
-    reads fam t xs room k l ∙ ap (λ u. matchRead fam u xs room) q ∙ ap (λ m. written m room) (witness-first fam s xs w f (few-members fam t s q)) ∙ ap (λ d. given 0 (w ++ drop d room)) z
+matched-first : (fam : Family) (t : List ℕ) (xs : List (ElementOf fam)) (room : List ℕ) (s : Template (LeafOf fam)) → Taken t xs → length xs ≤ length room → readTemplate fam t ≡ got s []
+    → elementOutside fam s xs ≡ false → (w : List ℕ) → First (Obeys fam s xs) w → length w ≡ length xs → matchAnswer fam t xs room ≡ given 0 (w ++ drop (length xs) room)
+unfolding written
+matched-first fam t xs room s k l q i w f z =
+    accepted fam t xs room s k l q i ∙ ap (λ m. written m room) (witness-first fam s xs w f (few-members fam t s q)) ∙ ap (λ d. given 0 (w ++ drop d room)) z
 
 module _ (fam : Family) (t : List ℕ) (xs : List (ElementOf fam)) (taken : Taken t xs) (p : Plan) (plan : PlanOf fam t p) where
-  -- ---- the template is refused
-  pub match-refused : (room : List ℕ) → length xs ≤ length room → (p .number ≡ 0 → ⊥) → given (p .number) room ≡ matchAnswer fam t xs room
-  match-refused room fits n = go plan
-    where
-      go : PlanOf fam t p → given (p .number) room ≡ matchAnswer fam t xs room
-      go (refusedPlan number q z e) = ap (λ (p : Plan). given (p .number) room) e ∙ sym (refused-where fam t xs room number taken fits q)
-      go (aPlan a b q z pl) = absurd (n z)
+  -- ---- the template is refused, or an element is outside its type
+  pub match-refused : (room : List ℕ) → length xs ≤ length room → (n : ℕ) → Stopped fam t p xs n → given n room ≡ matchAnswer fam t xs room
+  match-refused room fits n (ownRefusal q) = sym (refused-where fam t xs room n taken fits q)
+  match-refused room fits n (outsideType h b q o e) = ap (λ (r : ℕ). given r room) e ∙ sym (outside-where fam t xs room (template h b) taken fits q o)
 
-  pub judge-refused : (w : List ℕ) → length w ≡ length xs → (p .number ≡ 0 → ⊥) → p .number ≡ judgeAnswer fam t xs w
+  pub judge-refused : (w : List ℕ) → length w ≡ length xs → (n : ℕ) → Stopped fam t p xs n → n ≡ judgeAnswer fam t xs w
   unfolding judgeRead
-  judge-refused w size n = go plan
-    where
-      go : PlanOf fam t p → p .number ≡ judgeAnswer fam t xs w
-      go (refusedPlan number q z e) = ap (λ (p : Plan). p .number) e ∙ sym (judges fam t xs w taken size ∙ ap (λ u. judgeRead fam u xs w) q)
-      go (aPlan a b q z pl) = absurd (n z)
+  judge-refused w size n (ownRefusal q) = sym (judges fam t xs w taken size ∙ ap (λ u. judgeRead fam u xs w) q)
+  judge-refused w size n (outsideType h b q o e) = e ∙ sym (judged-outside fam t xs w (template h b) taken size q o)
 
   -- ---- the template is accepted
-  module _ (zero : p .number ≡ 0) (met : Bool) (says : met ≡ (leb (p .low) (length xs) && leb (length xs) (p .high))) where
+  module _ (passed : Passed fam t p xs) (met : Bool) (says : met ≡ (leb (p .low) (length xs) && leb (length xs) (p .high))) where
     ready : Ready fam t p (length xs)
-    ready = planned-ready fam t p (length xs) plan zero (taken .1)
+    ready = planned-ready fam t p (length xs) plan (passed .zero) (taken .1)
 
-    met-is : met ≡ lengthMet (ready .attribute) (length xs)
-    met-is = length-by fam t p (length xs) (taken .1) met says (ready .attribute) (ready .body) (ready .planned)
+    inside : elementOutside fam (template (ready .heads) (ready .body)) xs ≡ false
+    inside = passed .inside (ready .heads) (ready .body) (ready .accepted)
+
+    met-is : met ≡ lengthMet (ready .heads .length) (length xs)
+    met-is = length-by fam t p (length xs) (taken .1) met says (ready .heads) (ready .body) (ready .planned)
 
     pub match-unmet : (room : List ℕ) → length xs ≤ length room → met ≡ false → given 1 room ≡ matchAnswer fam t xs room
     match-unmet room fits f =
-        sym (unmatched-where fam t xs room (template (ready .attribute) (ready .body)) taken fits (ready .accepted) (unmet-none fam (ready .attribute) (ready .body) xs (sym met-is ∙ f)))
+        sym (unmatched-where fam t xs room (template (ready .heads) (ready .body)) taken fits (ready .accepted) inside (unmet-none fam (ready .heads) (ready .body) xs (sym met-is ∙ f)))
 
     pub judge-unmet : (w : List ℕ) → length w ≡ length xs → met ≡ false → 1 ≡ judgeAnswer fam t xs w
     judge-unmet w size f =
-        let s = template (ready .attribute) (ready .body) in
-        sym (judged fam t xs w s taken size (ready .accepted) ∙ ap (λ b. cond b 0 1) (not-so (obeys fam s xs w) (unmet-none fam (ready .attribute) (ready .body) xs (sym met-is ∙ f) w)))
+        let s = template (ready .heads) (ready .body) in
+        sym (judged fam t xs w s taken size (ready .accepted) inside ∙ ap (λ b. cond b 0 1) (not-so (obeys fam s xs w) (unmet-none fam (ready .heads) (ready .body) xs (sym met-is ∙ f) w)))
 
     -- ---- the length is met
     module _ (so : met ≡ true) where
       module _ (found : Bool) (w : List ℕ)
           (best : (es : List (Elem (LeafOf fam))) → Standing fam t es (take (p .members) (p .places)) → Best (Allows (p .kind) (blocksIn (take (p .count) (p .blocks))) (p .members) (pairOf fam es xs) (length xs)) (length xs) found w)
           (room : List ℕ) (fits : length xs ≤ length room) where
-        first : Best (Obeys fam (template (ready .attribute) (ready .body)) xs) (length xs) found w
+        first : Best (Obeys fam (template (ready .heads) (ready .body)) xs) (length xs) found w
         first = best-by xs ready (sym met-is ∙ so) best
 
         pub match-none : found ≡ false → given 1 room ≡ matchAnswer fam t xs room
-        match-none f = sym (unmatched-where fam t xs room (template (ready .attribute) (ready .body)) taken fits (ready .accepted) (first .none f))
+        match-none f = sym (unmatched-where fam t xs room (template (ready .heads) (ready .body)) taken fits (ready .accepted) inside (first .none f))
 
         pub match-found : found ≡ true → (after : List ℕ) → after ≡ take (length xs) w ++ drop (length xs) room → given 0 after ≡ matchAnswer fam t xs room
         match-found f after c =
             let s = first .size in
             let l : length xs ≤ 32 = taken .1 in
-            ap (given 0) c ∙ sym (matched-first fam t xs room (template (ready .attribute) (ready .body)) taken fits (ready .accepted) (take (length xs) w) (first .best f) (length-take-le (length xs) w (omega arith)))
+            ap (given 0) c ∙ sym (matched-first fam t xs room (template (ready .heads) (ready .body)) taken fits (ready .accepted) inside (take (length xs) w) (first .best f) (length-take-le (length xs) w (omega arith)))

@@ -8,6 +8,8 @@ use denote.Triple.Clauses.{AtExit}
 use Rattle.matching.specs.Answer.{Given, given}
 use Rattle.matcher.proofs.length_met.Reads as length-met
 use Rattle.matcher.proofs.length_met.Kinds as length-met-kinds
+use Rattle.matcher.proofs.refusal_by.Reads as refusal-by
+use Rattle.matcher.proofs.refusal_by.Kinds as refusal-by-kinds
 use Rattle.matcher.proofs.match_planned.Reads as match-planned
 use Rattle.matcher.proofs.match_planned.Kinds as match-planned-kinds
 use Rattle.matcher.proofs.judge_planned.Reads as judge-planned
@@ -51,3 +53,7 @@ judge-floats-unique κs a r r′ s s′ p q = p ∙ sym q
 pub length-met-unique : (κs : Lfts 0) (a : Dens κs length-met-kinds.ps) (r r′ : resT length-met-kinds.r κs .Denot) (s s′ : AtExit (endedOf 0 length-met-kinds.ps length-met-kinds.r) κs)
     → length-met.Post κs a r s → length-met.Post κs a r′ s′ → r ≡ r′
 length-met-unique κs a r r′ s s′ p q = p ∙ sym q
+
+pub refusal-by-unique : (κs : Lfts 1) (a : Dens κs refusal-by-kinds.ps) (r r′ : resT refusal-by-kinds.r κs .Denot) (s s′ : AtExit (endedOf 1 refusal-by-kinds.ps refusal-by-kinds.r) κs)
+    → refusal-by.Post κs a r s → refusal-by.Post κs a r′ s′ → r ≡ r′
+refusal-by-unique κs a r r′ s s′ p q = p ∙ sym q

@@ -6,12 +6,13 @@ ghost use Prim.Native.Nat.{_≤_};
 ghost use lib.Dec.{leb};
 ghost use lib.ListN.{length};
 ghost use Rattle.format.specs.declared.Family.{Family};
-ghost use Rattle.grammar.specs.Family.{listOf, Lent};
+ghost use Rattle.grammar.specs.Family.{listOf, Lent, someOutside};
+ghost use Rattle.sorts.specs.Sorts.{lowerOf, upperOf};
 ghost use Rattle.plans.specs.Plans.{PlanOf};
 ghost use Rattle.matching.specs.Answer.{given, matchAnswer, judgeAnswer};
-ghost use Rattle.matcher.specs.Contract.{Copied, Planning};
-use elements::Sort;
+ghost use Rattle.matcher.specs.Contract.{refusalBy, Copied, Planning};
 use format::DONE;
+use format::ELEMENT_OUTSIDE;
 use format::Family;
 use format::LIST_MOST;
 use format::LIST_TOO_LONG;
@@ -24,6 +25,9 @@ use obeying::body_met;
 use pairs::WRONG;
 use pairs::left_over;
 use plans::Plan;
+use sorts::Sort;
+use sorts::WHOLE;
+use sorts::reaches;
 use template::plan_of;
 use witnesses::first_witness;
 
@@ -32,6 +36,34 @@ pub fn length_met(low: u8, high: u8, n: usize) -> bool
     ensures { λ r. ⌜ r ≡ (leb low n && leb n high) ⌝ }
 {
     (low as usize <= n) & (n <= high as usize)
+}
+
+// Whether an element of the list is outside the type.
+fn some_outside(sort: Sort, list: &[i32]) -> bool
+    ensures { λ r. ⌜ r ≡ someOutside (lowerOf sort) (upperOf sort) (now (list .entry)) ⌝ }
+{
+    let mut k: usize = 0;
+    while k < list.len() {
+        let x = list[k];
+        if reaches(sort, x, x) {
+            return true;
+        }
+        k += 1;
+    }
+    false
+}
+
+// The number by which a list of integers is refused after the scan, or 0: the template's own, or 17 where an element is outside its type.
+pub fn refusal_by(own: u8, sort: Sort, list: &[i32]) -> u8
+    ensures { λ r. ⌜ r ≡ refusalBy own sort (now (list .entry)) ⌝ }
+{
+    if (own != DONE) | (sort.word == WHOLE) {
+        return own;
+    }
+    if some_outside(sort, list) {
+        return ELEMENT_OUTSIDE;
+    }
+    DONE
 }
 
 // Writes the first n bytes of w into the room; no other byte changes.
@@ -68,9 +100,12 @@ pub fn match_planned(
     if room.len() < n {
         return ROOM_TOO_SHORT;
     }
-    let number = plan.number;
-    if number != DONE {
-        return number;
+    let sort = plan.sort;
+    if sort.word != WHOLE {
+        let number = refusal_by(plan.number, sort, integers);
+        if number != DONE {
+            return number;
+        }
     }
     if !length_met(plan.low, plan.high, n) {
         return NO_MATCH;
@@ -95,12 +130,18 @@ pub fn match_planned(
     DONE
 }
 
-// The same for one list of this sort, by a plan that is made for it.
-fn match_any(template: &[u8], sort: Sort, integers: &[i32], floats: &[f64], room: &mut [u8]) -> u8
-    requires { ⌜ Lent (sort .family) (now integers) (now floats) ⌝ }
-    ensures { λ r. ⌜ given r (now (room .exit)) ≡ matchAnswer (sort .family) (now (template .entry)) (listOf (sort .family) (now (integers .entry)) (now (floats .entry))) (now (room .entry)) ⌝ }
+// The same for one list of this family, by a plan that is made for it.
+fn match_any(
+    template: &[u8],
+    family: Family,
+    integers: &[i32],
+    floats: &[f64],
+    room: &mut [u8],
+) -> u8
+    requires { ⌜ Lent family (now integers) (now floats) ⌝ }
+    ensures { λ r. ⌜ given r (now (room .exit)) ≡ matchAnswer family (now (template .entry)) (listOf family (now (integers .entry)) (now (floats .entry))) (now (room .entry)) ⌝ }
 {
-    let plan = plan_of(template, sort);
+    let plan = plan_of(template, family);
     match_planned(template, plan, integers, floats, room)
 }
 
@@ -109,10 +150,7 @@ pub fn match_list(template: &[u8], list: &[i32], room: &mut [u8]) -> u8
     ensures { λ r. ⌜ given r (now (room .exit)) ≡ matchAnswer Family.Integers (now (template .entry)) (now (list .entry)) (now (room .entry)) ⌝ }
 {
     let none = [0.0f64; 1];
-    let sort = Sort {
-        family: Family::Integers,
-    };
-    match_any(template, sort, list, &none[..0], room)
+    match_any(template, Family::Integers, list, &none[..0], room)
 }
 
 // The same for a list of floats.
@@ -120,10 +158,7 @@ pub fn match_floats(template: &[u8], list: &[f64], room: &mut [u8]) -> u8
     ensures { λ r. ⌜ given r (now (room .exit)) ≡ matchAnswer Family.Floats (now (template .entry)) (now (list .entry)) (now (room .entry)) ⌝ }
 {
     let none = [0i32; 1];
-    let sort = Sort {
-        family: Family::Floats,
-    };
-    match_any(template, sort, &none[..0], list, room)
+    match_any(template, Family::Floats, &none[..0], list, room)
 }
 
 // Whether the offered witness obeys: 0 or 1, or the number of a refusal; by the plan of the template.
@@ -147,8 +182,12 @@ pub fn judge_planned(
     if witness.len() != size {
         return OTHER_LENGTH;
     }
-    if plan.number != DONE {
-        return plan.number;
+    let sort = plan.sort;
+    if sort.word != WHOLE {
+        let refusal = refusal_by(plan.number, sort, integers);
+        if refusal != DONE {
+            return refusal;
+        }
     }
     if !length_met(plan.low, plan.high, size) {
         return NO_MATCH;
@@ -170,12 +209,18 @@ pub fn judge_planned(
     NO_MATCH
 }
 
-// The same for one list of this sort, by a plan that is made for it.
-fn judge_any(template: &[u8], sort: Sort, integers: &[i32], floats: &[f64], witness: &[u8]) -> u8
-    requires { ⌜ Lent (sort .family) (now integers) (now floats) ⌝ }
-    ensures { λ r. ⌜ r ≡ judgeAnswer (sort .family) (now (template .entry)) (listOf (sort .family) (now (integers .entry)) (now (floats .entry))) (now (witness .entry)) ⌝ }
+// The same for one list of this family, by a plan that is made for it.
+fn judge_any(
+    template: &[u8],
+    family: Family,
+    integers: &[i32],
+    floats: &[f64],
+    witness: &[u8],
+) -> u8
+    requires { ⌜ Lent family (now integers) (now floats) ⌝ }
+    ensures { λ r. ⌜ r ≡ judgeAnswer family (now (template .entry)) (listOf family (now (integers .entry)) (now (floats .entry))) (now (witness .entry)) ⌝ }
 {
-    let plan = plan_of(template, sort);
+    let plan = plan_of(template, family);
     judge_planned(template, plan, integers, floats, witness)
 }
 
@@ -184,10 +229,7 @@ pub fn judge(template: &[u8], list: &[i32], witness: &[u8]) -> u8
     ensures { λ r. ⌜ r ≡ judgeAnswer Family.Integers (now (template .entry)) (now (list .entry)) (now (witness .entry)) ⌝ }
 {
     let none = [0.0f64; 1];
-    let sort = Sort {
-        family: Family::Integers,
-    };
-    judge_any(template, sort, list, &none[..0], witness)
+    judge_any(template, Family::Integers, list, &none[..0], witness)
 }
 
 // The same for a list of floats.
@@ -195,8 +237,5 @@ pub fn judge_floats(template: &[u8], list: &[f64], witness: &[u8]) -> u8
     ensures { λ r. ⌜ r ≡ judgeAnswer Family.Floats (now (template .entry)) (now (list .entry)) (now (witness .entry)) ⌝ }
 {
     let none = [0i32; 1];
-    let sort = Sort {
-        family: Family::Floats,
-    };
-    judge_any(template, sort, &none[..0], list, witness)
+    judge_any(template, Family::Floats, &none[..0], list, witness)
 }

@@ -162,8 +162,8 @@ right-in hits es (x ∷ xs) (b ∷ w) h =
 
 obeys-in : (fam : Family) (t : Template (LeafOf fam)) (xs : List (ElementOf fam)) (w : List ℕ) → obeys fam t xs w ≡ true → AllIn (bytesOf (membersCount t)) w × (length w ≡ length xs)
 unfolding obeysBy membersCount
-obeys-in fam (template a b) xs w h =
-    right-in (matchesOf fam) (membersOf b) xs w (and-left (rightBytes (matchesOf fam) (membersOf b) xs w) (noneTwice (length (membersOf b)) w && (bodyMet b w && lengthMet a (length xs))) h)
+obeys-in fam (template h b) xs w o =
+    right-in (matchesOf fam) (membersOf b) xs w (and-left (rightBytes (matchesOf fam) (membersOf b) xs w) (noneTwice (length (membersOf b)) w && (bodyMet b w && lengthMet (h .length) (length xs))) o)
 
 pub obeys-size : (fam : Family) (t : Template (LeafOf fam)) (xs : List (ElementOf fam)) (w : List ℕ) → obeys fam t xs w ≡ true → length w ≡ length xs
 obeys-size fam t xs w h = obeys-in fam t xs w h .1

@@ -19,7 +19,7 @@ use Rattle.facts.proofs.Slices.{nil-of-length}
 use Rattle.blocks.proofs.Assignments.{once-test, test-once}
 use Rattle.blocks.specs.Pieces.{Takes, Cuts, Fills}
 use Rattle.grammar.specs.Element.{Elem}
-use Rattle.grammar.specs.Template.{grouped, Item, one, spares, permutation, Body, recordOf, setOf, superset, subset, Length, template, membersOfGroup, membersOfItem, membersOfItems, membersOf}
+use Rattle.grammar.specs.Template.{grouped, Item, one, spares, permutation, Body, recordOf, setOf, superset, subset, Heads, template, membersOfGroup, membersOfItem, membersOfItems, membersOf}
 use Rattle.grammar.specs.Members.{memberHits}
 use Rattle.grammar.specs.Blocks.{minOf, maxOf, blockOfGroup, blockOfItem, blocksOfItems, blocksOf}
 use Rattle.grammar.proofs.Members.{hits-low}
@@ -328,7 +328,7 @@ module _ {L : Type 0} (may : ℕ → ℕ → Bool) (n : ℕ) (w : List ℕ) (sho
       let u = subset-test may (length es) n w f (omega arith) in
       record { rights = u .0; size = f .size; none = twice-test (length es) w (f .once); test = eq-eqb (cnt spare w) 0 (u .1) }
 
-module _ {L X : Type 0} (hits : Elem L → X → Bool) (a : Length) (b : Body L) (may : ℕ → ℕ → Bool) (xs : List X) (agree : Agree hits (membersOf b) 0 xs may) (few : length (membersOf b) ≤ 32) (short : length xs ≤ 32) (w : List ℕ) where
+module _ {L X : Type 0} (hits : Elem L → X → Bool) (h : Heads) (b : Body L) (may : ℕ → ℕ → Bool) (xs : List X) (agree : Agree hits (membersOf b) 0 xs may) (few : length (membersOf b) ≤ 32) (short : length xs ≤ 32) (w : List ℕ) where
   abbrev right-bytes : Bool
   right-bytes = rightBytes hits (membersOf b) xs w
 
@@ -336,19 +336,19 @@ module _ {L X : Type 0} (hits : Elem L → X → Bool) (a : Length) (b : Body L)
   none-twice = noneTwice (length (membersOf b)) w
 
   -- an assignment obeys exactly where the length is met and the blocks cut the list, or the members fill it
-  pub obeys-says : obeysBy hits (template a b) xs w ≡ true → ByBlocks b may (length xs) w × (lengthMet a (length xs) ≡ true)
+  pub obeys-says : obeysBy hits (template h b) xs w ≡ true → ByBlocks b may (length xs) w × (lengthMet (h .length) (length xs) ≡ true)
   unfolding obeysBy
-  obeys-says h =
-      let h₁ = and-right right-bytes (none-twice && (bodyMet b w && lengthMet a (length xs))) h in
-      let h₂ = and-right none-twice (bodyMet b w && lengthMet a (length xs)) h₁ in
-      let r = right-says hits (membersOf b) may 0 xs w agree (and-left right-bytes (none-twice && (bodyMet b w && lengthMet a (length xs))) h) in (
-        body-says may (length xs) w short b few (r .0) (r .1) (right-within hits (membersOf b) may 0 xs w agree (r .0) (r .1)) (and-left none-twice (bodyMet b w && lengthMet a (length xs)) h₁) (and-left (bodyMet b w) (lengthMet a (length xs)) h₂),
-        and-right (bodyMet b w) (lengthMet a (length xs)) h₂,
+  obeys-says o =
+      let o₁ = and-right right-bytes (none-twice && (bodyMet b w && lengthMet (h .length) (length xs))) o in
+      let o₂ = and-right none-twice (bodyMet b w && lengthMet (h .length) (length xs)) o₁ in
+      let r = right-says hits (membersOf b) may 0 xs w agree (and-left right-bytes (none-twice && (bodyMet b w && lengthMet (h .length) (length xs))) o) in (
+        body-says may (length xs) w short b few (r .0) (r .1) (right-within hits (membersOf b) may 0 xs w agree (r .0) (r .1)) (and-left none-twice (bodyMet b w && lengthMet (h .length) (length xs)) o₁) (and-left (bodyMet b w) (lengthMet (h .length) (length xs)) o₂),
+        and-right (bodyMet b w) (lengthMet (h .length) (length xs)) o₂,
       )
 
-  pub obeys-test : ByBlocks b may (length xs) w → lengthMet a (length xs) ≡ true → obeysBy hits (template a b) xs w ≡ true
+  pub obeys-test : ByBlocks b may (length xs) w → lengthMet (h .length) (length xs) ≡ true → obeysBy hits (template h b) xs w ≡ true
   unfolding obeysBy
   obeys-test c m =
       let u = body-test may (length xs) w short b few c in
-      both right-bytes (none-twice && (bodyMet b w && lengthMet a (length xs))) (right-test hits (membersOf b) may 0 xs w agree (u .rights) (u .size))
-      (both none-twice (bodyMet b w && lengthMet a (length xs)) (u .none) (both (bodyMet b w) (lengthMet a (length xs)) (u .test) m))
+      both right-bytes (none-twice && (bodyMet b w && lengthMet (h .length) (length xs))) (right-test hits (membersOf b) may 0 xs w agree (u .rights) (u .size))
+      (both none-twice (bodyMet b w && lengthMet (h .length) (length xs)) (u .none) (both (bodyMet b w) (lengthMet (h .length) (length xs)) (u .test) m))

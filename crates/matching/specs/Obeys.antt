@@ -95,11 +95,11 @@ lengthMet anyLength n = true
 lengthMet (lengthBetween min max) n = numbered min max n
 
 unfoldable pub obeysBy : {L X : Type 0} → (Elem L → X → Bool) → Template L → List X → List ℕ → Bool
-obeysBy hits (template a b) xs w =
+obeysBy hits (template h b) xs w =
     rightBytes hits (membersOf b) xs w
     && (noneTwice (length (membersOf b)) w
     && (bodyMet b w
-    && lengthMet a (length xs)))
+    && lengthMet (h .length) (length xs)))
 
 abbrev pub obeys : (f : Family) → Template (LeafOf f) → List (ElementOf f) → List ℕ → Bool
 obeys f t xs w = obeysBy (matchesOf f) t xs w

@@ -46,7 +46,7 @@ abbrev pub bytesOf : ℕ → List ℕ
 bytesOf k = from 0 k
 
 unfoldable pub membersCount : {L : Type 0} → Template L → ℕ
-membersCount (template a b) = length (membersOf b)
+membersCount (template h b) = length (membersOf b)
 
 unfoldable pub firstWitness : (f : Family) → Template (LeafOf f) → List (ElementOf f) → Maybe
 firstWitness f t xs = firstOf (length xs) (bytesOf (membersCount t)) (obeys f t xs)

@@ -15,18 +15,18 @@ use Rattle.masks.specs.Masks.{bit}
 use Rattle.facts.specs.Counting.{between, cnt, count, anyBelow}
 use Rattle.blocks.specs.Assignment.{allOnce, wanted}
 use Rattle.grammar.specs.Template.{Template, membersOfGroup, membersOfItem, membersOfItems, membersOf}
-use Rattle.grammar.specs.Record.{countFault, boundsFault, groupHead, head}
-use Rattle.grammar.specs.Leaf.{singleHead, rangeHead, leafHead}
+use Rattle.grammar.specs.Record.{countFault, boundsFault, typeFault, groupHead, head}
+use Rattle.grammar.specs.Leaf.{singleHead, rangeHead, leafHead, reaches, ofType}
 use Rattle.grammar.specs.FloatLeaf.{oneHead, floatRangeHead, floatHead}
-use Rattle.grammar.specs.Family.{LeafOf, leavesOf, ElementOf}
-use Rattle.grammar.specs.Read.{Read, refuse, got, ended, mapRead}
+use Rattle.grammar.specs.Family.{LeafOf, ElementOf, someOutside}
+use Rattle.grammar.specs.Read.{Read, refuse, got, ended, mapRead, andThen}
 use Rattle.grammar.specs.Reading.{uncounted, putFirst, thenMore, many, closed, tooDeep, opened, elem}
-use Rattle.grammar.specs.Whole.{starHere, numbered, putMember, thenMembers, thenStar, putItem, thenItems, clashes, member, members, permutationHere, item, items, contents, bodyHere, templateHere, readTemplate}
+use Rattle.grammar.specs.Whole.{starHere, numbered, putMember, thenMembers, thenStar, putItem, thenItems, clashes, member, members, permutationHere, item, items, contents, bodyHere, lengthHere, typeHere, headsHere, templateHere, readTemplate}
 use Rattle.grammar.specs.Matches.{matchesBy, leafMatches}
 use Rattle.grammar.specs.Members.{memberHits}
 use Rattle.matching.specs.Obeys.{rightBytes, noneTwice, allSpare, withinBlock, starMet, groupTakes, itemTakes, someCut, cuts, bodyMet, lengthMet, obeysBy}
 use Rattle.matching.specs.Search.{put, orElse, tryEach, firstOf, from, membersCount, firstWitness}
-use Rattle.matching.specs.Answer.{written, matchRead, matchAnswer}
+use Rattle.matching.specs.Answer.{written, elementOutside, matchRead, matchAnswer}
 use Rattle.reasons.specs.Reason.{matched, sizeOf}
 use Rattle.why.specs.Why.{pairs, Asked, ofNothing, ofGroups, askedBy, askedOf, numberOf}
 
@@ -55,7 +55,7 @@ data Row (fam : Family) : Type 0 where
 
 right : (fam : Family) → List (Row fam) → Bool
 right fam [] = true
-right fam (row t xs r g ∷ rows) = eqb (numberOf (matchAnswer fam t xs (replicate (length xs) 165))) r && (isRead fam (readTemplate (leavesOf fam) t) xs r g && right fam rows)
+right fam (row t xs r g ∷ rows) = eqb (numberOf (matchAnswer fam t xs (replicate (length xs) 165))) r && (isRead fam (readTemplate fam t) xs r g && right fam rows)
 
 examples : List (Row Family.Integers)
 examples =
@@ -72,10 +72,12 @@ examples =
     row (48 ∷ 0 ∷ 255 ∷ 18 ∷ 1 ∷ 3 ∷ []) ([]) 9 0 ∷  -- refused
     row (18 ∷ 4 ∷ 1 ∷ 9 ∷ 0 ∷ 0 ∷ 0 ∷ 1 ∷ 8 ∷ 0 ∷ 0 ∷ 0 ∷ 1 ∷ 1 ∷ 0 ∷ 0 ∷ 0 ∷ 3 ∷ []) (pos 1 ∷ []) 1 15 ∷  -- superset(9, 8, 1, ?) on 1: {0} lacks 1, {0, 1} lack 2, all four lack 3
     row (18 ∷ 3 ∷ 1 ∷ 9 ∷ 0 ∷ 0 ∷ 0 ∷ 1 ∷ 8 ∷ 0 ∷ 0 ∷ 0 ∷ 1 ∷ 1 ∷ 0 ∷ 0 ∷ 0 ∷ []) (pos 1 ∷ []) 1 3 ∷  -- superset(9, 8, 1) on 1
+    row (49 ∷ 0 ∷ 0 ∷ 0 ∷ 0 ∷ 23 ∷ 0 ∷ 0 ∷ 0 ∷ 18 ∷ 1 ∷ 1 ∷ 5 ∷ 0 ∷ 0 ∷ 0 ∷ []) (pos 6 ∷ []) 1 1 ∷  -- superset(5) of hours 0 to 23 on 6
+    row (49 ∷ 0 ∷ 0 ∷ 0 ∷ 0 ∷ 23 ∷ 0 ∷ 0 ∷ 0 ∷ 18 ∷ 1 ∷ 1 ∷ 5 ∷ 0 ∷ 0 ∷ 0 ∷ []) (pos 40 ∷ []) 17 0 ∷  -- the same on 40, which is no hour: no group
     []
 
 examples-right : right Family.Integers examples ≡ true
-unfolding right isRead isGroup isReason isMost every examples bit count anyBelow wanted pairs askedBy askedOf signed intAt between cnt allOnce membersOfGroup membersOfItem membersOfItems membersOf countFault boundsFault groupHead head singleHead rangeHead leafHead ended uncounted putFirst thenMore many closed tooDeep opened elem mapRead starHere numbered putMember thenMembers thenStar putItem thenItems clashes member members permutationHere item items contents bodyHere templateHere readTemplate matchesBy leafMatches memberHits rightBytes noneTwice allSpare withinBlock starMet groupTakes itemTakes someCut cuts bodyMet lengthMet obeysBy put orElse tryEach firstOf from membersCount firstWitness written matchRead matchAnswer
+unfolding someOutside right isRead isGroup isReason isMost every examples bit count anyBelow wanted pairs askedBy askedOf signed intAt between cnt allOnce membersOfGroup membersOfItem membersOfItems membersOf countFault boundsFault typeFault groupHead head singleHead rangeHead leafHead reaches ofType ended uncounted putFirst thenMore many closed tooDeep opened elem mapRead starHere numbered putMember thenMembers thenStar putItem thenItems clashes member members permutationHere item items contents bodyHere lengthHere typeHere headsHere andThen templateHere readTemplate matchesBy leafMatches memberHits rightBytes noneTwice allSpare withinBlock starMet groupTakes itemTakes someCut cuts bodyMet lengthMet obeysBy put orElse tryEach firstOf from membersCount firstWitness written elementOutside matchRead matchAnswer
 examples-right = refl
 
 -- ---- floats
@@ -106,5 +108,5 @@ floatExamples =
     []
 
 float-examples-right : right Family.Floats floatExamples ≡ true
-unfolding ofBits isNan eq lt le floatAt oneFault floatBoundsFault floatMatches oneHead floatRangeHead floatHead floatExamples right isRead isGroup isReason isMost every bit count anyBelow wanted pairs askedBy askedOf between cnt allOnce membersOfGroup membersOfItem membersOfItems membersOf countFault boundsFault groupHead head ended uncounted putFirst thenMore many closed tooDeep opened elem mapRead starHere numbered putMember thenMembers thenStar putItem thenItems clashes member members permutationHere item items contents bodyHere templateHere readTemplate matchesBy memberHits rightBytes noneTwice allSpare withinBlock starMet groupTakes itemTakes someCut cuts bodyMet lengthMet obeysBy put orElse tryEach firstOf from membersCount firstWitness written matchRead matchAnswer
+unfolding ofBits isNan eq lt le floatAt oneFault floatBoundsFault floatMatches oneHead floatRangeHead floatHead floatExamples right isRead isGroup isReason isMost every bit count anyBelow wanted pairs askedBy askedOf between cnt allOnce membersOfGroup membersOfItem membersOfItems membersOf countFault boundsFault groupHead head ended uncounted putFirst thenMore many closed tooDeep opened elem mapRead starHere numbered putMember thenMembers thenStar putItem thenItems clashes member members permutationHere item items contents bodyHere lengthHere typeHere headsHere andThen templateHere readTemplate matchesBy memberHits rightBytes noneTwice allSpare withinBlock starMet groupTakes itemTakes someCut cuts bodyMet lengthMet obeysBy put orElse tryEach firstOf from membersCount firstWitness written elementOutside matchRead matchAnswer
 float-examples-right = refl

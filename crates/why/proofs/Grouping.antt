@@ -15,8 +15,8 @@ use Rattle.rows.specs.Rows.{may}
 use Rattle.facts.proofs.Cases.{clash, one-of, or-left, or-right}
 use Rattle.grammar.specs.Element.{Elem}
 use Rattle.format.specs.declared.Family.{Family}
-use Rattle.grammar.specs.Family.{LeafOf, leavesOf, ElementOf, noElement, matchesOf}
-use Rattle.grammar.specs.Template.{Body, recordOf, setOf, superset, subset, Length, Template, template, membersOf}
+use Rattle.grammar.specs.Family.{LeafOf, ElementOf, noElement, matchesOf}
+use Rattle.grammar.specs.Template.{Body, recordOf, setOf, superset, subset, Heads, Template, template, membersOf}
 use Rattle.grammar.specs.Read.{refuse, got}
 use Rattle.grammar.specs.Whole.{readTemplate}
 use Rattle.grammar.specs.Blocks.{bodyKind, Standing}
@@ -26,8 +26,9 @@ use Rattle.plans.specs.Plans.{Planned, PlanOf, refusedPlan, aPlan}
 use Rattle.plans.specs.declared.Plan.{Plan}
 use Rattle.member_rows.specs.Contract.{RowsOf}
 use Rattle.matching.specs.Obeys.{lengthMet}
-use Rattle.matching.specs.Answer.{Taken}
+use Rattle.matching.specs.Answer.{elementOutside, Taken}
 use Rattle.matcher.proofs.ByPlan.{length-by}
+use Rattle.matcher.proofs.Inside.{Passed, Stopped, ownRefusal, outsideType}
 use Rattle.reasons.specs.Reason.{Given}
 use Rattle.reasons.proofs.Groups.{given-agree}
 use Rattle.why.specs.Why.{pairs, ofNothing, askedBy, askedOf}
@@ -35,32 +36,33 @@ use Rattle.why.specs.Contract.{Grouped, GroupFor}
 
 -- ---- no group
 module _ (fam : Family) (t : List ℕ) (xs : List (ElementOf fam)) where
-  none-for : ((s : Template (LeafOf fam)) → Taken t xs → readTemplate (leavesOf fam) t ≡ got s [] → ⊥) → GroupFor fam t xs 0
-  none-for never = record { accepted = λ some. absurd (some refl); group = λ k s q. absurd (never s k q) }
+  none-for : ((s : Template (LeafOf fam)) → Taken t xs → readTemplate fam t ≡ got s [] → elementOutside fam s xs ≡ false → ⊥) → GroupFor fam t xs 0
+  none-for never = record { accepted = λ some. absurd (some refl); group = λ k s q i. absurd (never s k q i) }
 
   pub group-many : 32 < length xs → GroupFor fam t xs 0
-  group-many l = none-for (λ s k q. let z = k .1 in omega arith)
+  group-many l = none-for (λ s k q i. let z = k .1 in omega arith)
 
-  pub group-refused : (p : Plan) → PlanOf fam t p → (p .number ≡ 0 → ⊥) → GroupFor fam t xs 0
-  group-refused p (refusedPlan r q z e) n = none-for (λ s k e. let c : _≡_ {A = ℕ} 0 1 = cc in omega arith)
-  group-refused p (aPlan a b q z pl) n = absurd (n z)
+  pub group-refused : (p : Plan) (n : ℕ) → Stopped fam t p xs n → GroupFor fam t xs 0
+  group-refused p n (ownRefusal q) = none-for (λ s k e i. let c : _≡_ {A = ℕ} 0 1 = cc in omega arith)
+  group-refused p n (outsideType h b q o z) = none-for (λ s k e i. let same : template h b ≡ s = cc in clash o (ap (λ (s : Template (LeafOf fam)). elementOutside fam s xs) same ∙ i))
 
   -- ---- what is asked of the plan's template
-  pub group-by : (p : Plan) (g : ℕ) → PlanOf fam t p → length xs ≤ 32 → p .number ≡ 0 → ((a : Length) (b : Body (LeafOf fam)) → Planned fam t a b p → Grouped (askedOf fam (template a b) xs) g) → GroupFor fam t xs g
-  group-by p g (refusedPlan r q z e) k n h = let y : r ≡ 0 = sym (ap (λ (x : Plan). x .number) e) ∙ n in absurd (omega arith)
-  group-by p g (aPlan a b q z pl) k n h = record {
-    accepted = λ some. (template a b, (accepted-short (leavesOf fam) t (template a b) q, k), q);
-    group = λ k s e. let same : template a b ≡ s = cc in subst (λ (s : Template (LeafOf fam)). Grouped (askedOf fam s xs) g) same (h a b pl);
+  pub group-by : (p : Plan) (g : ℕ) → PlanOf fam t p → Passed fam t p xs → length xs ≤ 32
+      → ((h : Heads) (b : Body (LeafOf fam)) → Planned fam t h b p → Grouped (askedOf fam (template h b) xs) g) → GroupFor fam t xs g
+  group-by p g (refusedPlan r q z e) passed k asks = let y : r ≡ 0 = sym (ap (λ (x : Plan). x .number) e) ∙ passed .zero in absurd (omega arith)
+  group-by p g (aPlan h b q z pl) passed k asks = record {
+    accepted = λ some. (template h b, (accepted-short fam t (template h b) q, k), q, passed .inside h b q);
+    group = λ k s e i. let same : template h b ≡ s = cc in subst (λ (s : Template (LeafOf fam)). Grouped (askedOf fam s xs) g) same (asks h b pl);
   }
 
 -- ---- by the length and the kind
-unmet-asks : (fam : Family) (a : Length) (b : Body (LeafOf fam)) (xs : List (ElementOf fam)) → lengthMet a (length xs) ≡ false → Grouped (askedOf fam (template a b) xs) 0
+unmet-asks : (fam : Family) (h : Heads) (b : Body (LeafOf fam)) (xs : List (ElementOf fam)) → lengthMet (h .length) (length xs) ≡ false → Grouped (askedOf fam (template h b) xs) 0
 unfolding askedOf Grouped
-unmet-asks fam a b xs m = subst (λ (s : Bool). Grouped (cond s (askedBy fam b xs) ofNothing) 0) (sym m) refl
+unmet-asks fam h b xs m = subst (λ (s : Bool). Grouped (cond s (askedBy fam b xs) ofNothing) 0) (sym m) refl
 
-body-asks : (fam : Family) (a : Length) (b : Body (LeafOf fam)) (xs : List (ElementOf fam)) (g : ℕ) → lengthMet a (length xs) ≡ true → Grouped (askedBy fam b xs) g → Grouped (askedOf fam (template a b) xs) g
+body-asks : (fam : Family) (h : Heads) (b : Body (LeafOf fam)) (xs : List (ElementOf fam)) (g : ℕ) → lengthMet (h .length) (length xs) ≡ true → Grouped (askedBy fam b xs) g → Grouped (askedOf fam (template h b) xs) g
 unfolding askedOf
-body-asks fam a b xs g m h = subst (λ (s : Bool). Grouped (cond s (askedBy fam b xs) ofNothing) g) (sym m) h
+body-asks fam h b xs g m asks = subst (λ (s : Bool). Grouped (cond s (askedBy fam b xs) ofNothing) g) (sym m) asks
 
 other-asks : (fam : Family) (b : Body (LeafOf fam)) (xs : List (ElementOf fam)) → (bodyKind b ≡ 0x12 → ⊥) → (bodyKind b ≡ 0x13 → ⊥) → Grouped (askedBy fam b xs) 0
 unfolding bodyKind askedBy Grouped
@@ -89,31 +91,31 @@ subset-asks fam (superset es) xs rows g k r h = absurd (omega arith)
 subset-asks fam (subset es) xs rows g k r h = given-agree (λ e m l i. rows-pairs r m e i l) h
 
 -- ---- by the plan, of a list of n elements
-module _ (fam : Family) (t : List ℕ) (p : Plan) (xs : List (ElementOf fam)) (n : ℕ) (size : length xs ≡ n) (short : n ≤ 32) (plan : PlanOf fam t p) (zero : p .number ≡ 0) (met : Bool) (says : met ≡ (leb (p .low) n && leb n (p .high))) where
+module _ (fam : Family) (t : List ℕ) (p : Plan) (xs : List (ElementOf fam)) (n : ℕ) (size : length xs ≡ n) (short : n ≤ 32) (plan : PlanOf fam t p) (passed : Passed fam t p xs) (met : Bool) (says : met ≡ (leb (p .low) n && leb n (p .high))) where
   few : length xs ≤ 32
   few = omega arith
 
-  met-is : (a : Length) (b : Body (LeafOf fam)) → Planned fam t a b p → lengthMet a (length xs) ≡ met
-  met-is a b pl = ap (lengthMet a) size ∙ sym (length-by fam t p n short met says a b pl)
+  met-is : (h : Heads) (b : Body (LeafOf fam)) → Planned fam t h b p → lengthMet (h .length) (length xs) ≡ met
+  met-is h b pl = ap (lengthMet (h .length)) size ∙ sym (length-by fam t p n short met says h b pl)
 
   pub group-unmet : met ≡ false → GroupFor fam t xs 0
-  group-unmet m = group-by fam t xs p 0 plan few zero (λ a b pl. unmet-asks fam a b xs (met-is a b pl ∙ m))
+  group-unmet m = group-by fam t xs p 0 plan passed few (λ h b pl. unmet-asks fam h b xs (met-is h b pl ∙ m))
 
   module _ (m : met ≡ true) where
-    by-body : (g : ℕ) → ((a : Length) (b : Body (LeafOf fam)) → Planned fam t a b p → Grouped (askedBy fam b xs) g) → GroupFor fam t xs g
-    by-body g h = group-by fam t xs p g plan few zero (λ a b pl. body-asks fam a b xs g (met-is a b pl ∙ m) (h a b pl))
+    by-body : (g : ℕ) → ((h : Heads) (b : Body (LeafOf fam)) → Planned fam t h b p → Grouped (askedBy fam b xs) g) → GroupFor fam t xs g
+    by-body g asks = group-by fam t xs p g plan passed few (λ h b pl. body-asks fam h b xs g (met-is h b pl ∙ m) (asks h b pl))
 
     pub group-other : (p .kind ≡ 0x12 → ⊥) → (p .kind ≡ 0x13 → ⊥) → GroupFor fam t xs 0
-    group-other n o = by-body 0 (λ a b pl. other-asks fam b xs (λ k. n (pl .kind ∙ k)) (λ k. o (pl .kind ∙ k)))
+    group-other n o = by-body 0 (λ h b pl. other-asks fam b xs (λ k. n (pl .kind ∙ k)) (λ k. o (pl .kind ∙ k)))
 
     module _ (rows : List ℕ) (right : (es : List (Elem (LeafOf fam))) → Standing fam t es (take (p .members) (p .places)) → RowsOf fam es xs rows) (g : ℕ) where
       pub group-superset : p .kind ≡ 0x12 → Given (may rows) (p .members) n g → GroupFor fam t xs g
-      group-superset k h = by-body g (λ a b pl.
-          superset-asks fam b xs rows g (sym (pl .kind) ∙ k) (right (membersOf b) (pl .stands)) (subst₂ (λ (i j : ℕ). Given (may rows) i j g) (pl .size) (sym size) h))
+      group-superset k given = by-body g (λ h b pl.
+          superset-asks fam b xs rows g (sym (pl .kind) ∙ k) (right (membersOf b) (pl .stands)) (subst₂ (λ (i j : ℕ). Given (may rows) i j g) (pl .size) (sym size) given))
 
       pub group-subset : p .kind ≡ 0x13 → Given (λ e m. may rows m e) n (p .members) g → GroupFor fam t xs g
-      group-subset k h = by-body g (λ a b pl.
-          subset-asks fam b xs rows g (sym (pl .kind) ∙ k) (right (membersOf b) (pl .stands)) (subst₂ (λ (i j : ℕ). Given (λ e m. may rows m e) i j g) (sym size) (pl .size) h))
+      group-subset k given = by-body g (λ h b pl.
+          subset-asks fam b xs rows g (sym (pl .kind) ∙ k) (right (membersOf b) (pl .stands)) (subst₂ (λ (i j : ℕ). Given (λ e m. may rows m e) i j g) (sym size) (pl .size) given))
 
 -- ---- the test of the kind
 pub neither : (kind : ℕ) → (eqb kind 0x12 || eqb kind 0x13) ≡ false → (kind ≡ 0x12 → ⊥) × (kind ≡ 0x13 → ⊥)

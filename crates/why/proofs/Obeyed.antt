@@ -21,7 +21,7 @@ use Rattle.blocks.specs.Pieces.{Cuts, Fills}
 use Rattle.grammar.specs.Element.{Elem}
 use Rattle.format.specs.declared.Family.{Family}
 use Rattle.grammar.specs.Family.{LeafOf, ElementOf, noElement, matchesOf}
-use Rattle.grammar.specs.Template.{Body, recordOf, setOf, superset, subset, Length, Template, template, membersOf}
+use Rattle.grammar.specs.Template.{Body, recordOf, setOf, superset, subset, Heads, Template, template, membersOf}
 use Rattle.grammar.specs.Blocks.{blocksOf}
 use Rattle.grammar.specs.Members.{memberHits}
 use Rattle.matching.specs.Obeys.{lengthMet, obeys}
@@ -75,32 +75,32 @@ chosen-subset es ok n f c = record {
   once = λ m l. listed-once f n m (c .apart);
 }
 
-module _ (fam : Family) (a : Length) (es : List (Elem (LeafOf fam))) (xs : List (ElementOf fam)) (few : length es ≤ 32) (short : length xs ≤ 32) where
+module _ (fam : Family) (h : Heads) (es : List (Elem (LeafOf fam))) (xs : List (ElementOf fam)) (few : length es ≤ 32) (short : length xs ≤ 32) where
   -- ---- a superset: its members on the elements
-  superset-unmet : (G : ℕ → Bool) → ShortGroup (pairs fam es xs) (length es) (length xs) G → (w : List ℕ) → obeys fam (template a (superset es)) xs w ≡ true → ⊥
+  superset-unmet : (G : ℕ → Bool) → ShortGroup (pairs fam es xs) (length es) (length xs) G → (w : List ℕ) → obeys fam (template h (superset es)) xs w ≡ true → ⊥
   unfolding membersOf
   superset-unmet G s w o =
-      let c = obeys-says (matchesOf fam) a (superset es) (pairs fam es xs) xs (pairs-agree fam es xs) few short w o .0 in
+      let c = obeys-says (matchesOf fam) h (superset es) (pairs fam es xs) xs (pairs-agree fam es xs) few short w o .0 in
       short-never (group-short s) (omega arith) (omega arith) short w (superset-assigns es (pairs fam es xs) (length xs) few short w c)
 
-  superset-met : lengthMet a (length xs) ≡ true → (f : ℕ → ℕ) → Chosen (pairs fam es xs) (length es) (length xs) f → (w : List ℕ) × (obeys fam (template a (superset es)) xs w ≡ true)
+  superset-met : lengthMet (h .length) (length xs) ≡ true → (f : ℕ → ℕ) → Chosen (pairs fam es xs) (length es) (length xs) f → (w : List ℕ) × (obeys fam (template h (superset es)) xs w ≡ true)
   unfolding membersOf
   superset-met m f c =
       let w = chosen-assigns (pairs fam es xs) (length es) (length xs) f few c in
-      (w .0, obeys-test (matchesOf fam) a (superset es) (pairs fam es xs) xs (pairs-agree fam es xs) few short (w .0) (assigns-superset es (pairs fam es xs) (length xs) few short (w .0) (w .1)) m)
+      (w .0, obeys-test (matchesOf fam) h (superset es) (pairs fam es xs) xs (pairs-agree fam es xs) few short (w .0) (assigns-superset es (pairs fam es xs) (length xs) few short (w .0) (w .1)) m)
 
   -- ---- a subset: the elements on its members
-  subset-unmet : (G : ℕ → Bool) → ShortGroup (λ e m. pairs fam es xs m e) (length xs) (length es) G → (w : List ℕ) → obeys fam (template a (subset es)) xs w ≡ true → ⊥
+  subset-unmet : (G : ℕ → Bool) → ShortGroup (λ e m. pairs fam es xs m e) (length xs) (length es) G → (w : List ℕ) → obeys fam (template h (subset es)) xs w ≡ true → ⊥
   unfolding membersOf ByBlocks
   subset-unmet G s w o =
-      let f = obeys-says (matchesOf fam) a (subset es) (pairs fam es xs) xs (pairs-agree fam es xs) few short w o .0 in
+      let f = obeys-says (matchesOf fam) h (subset es) (pairs fam es xs) xs (pairs-agree fam es xs) few short w o .0 in
       chosen-never short few (subset-chosen es (pairs fam es xs) (length xs) few short w f) s
 
-  subset-met : lengthMet a (length xs) ≡ true → (f : ℕ → ℕ) → Chosen (λ e m. pairs fam es xs m e) (length xs) (length es) f → (w : List ℕ) × (obeys fam (template a (subset es)) xs w ≡ true)
+  subset-met : lengthMet (h .length) (length xs) ≡ true → (f : ℕ → ℕ) → Chosen (λ e m. pairs fam es xs m e) (length xs) (length es) f → (w : List ℕ) × (obeys fam (template h (subset es)) xs w ≡ true)
   unfolding membersOf ByBlocks
   subset-met m f c =
       let w = listed f (length xs) in
-      (w, obeys-test (matchesOf fam) a (subset es) (pairs fam es xs) xs (pairs-agree fam es xs) few short w (chosen-subset es (pairs fam es xs) (length xs) f c) m)
+      (w, obeys-test (matchesOf fam) h (subset es) (pairs fam es xs) xs (pairs-agree fam es xs) few short w (chosen-subset es (pairs fam es xs) (length xs) f c) m)
 
 -- ---- what is asked
 pub record Question (fam : Family) (s : Template (LeafOf fam)) (xs : List (ElementOf fam)) (ok : ℕ → ℕ → Bool) (k n : ℕ) : Type 0 where
@@ -114,18 +114,18 @@ unfoldable Sensible : (fam : Family) → Template (LeafOf fam) → List (Element
 Sensible fam s xs ofNothing = Unit {0}
 Sensible fam s xs (ofGroups ok k n) = Question fam s xs ok k n
 
-body-sensible : (fam : Family) (a : Length) (b : Body (LeafOf fam)) (xs : List (ElementOf fam)) → length (membersOf b) ≤ 32 → length xs ≤ 32 → lengthMet a (length xs) ≡ true → Sensible fam (template a b) xs (askedBy fam b xs)
+body-sensible : (fam : Family) (h : Heads) (b : Body (LeafOf fam)) (xs : List (ElementOf fam)) → length (membersOf b) ≤ 32 → length xs ≤ 32 → lengthMet (h .length) (length xs) ≡ true → Sensible fam (template h b) xs (askedBy fam b xs)
 unfolding Sensible askedBy membersOf
-body-sensible fam a (recordOf is) xs few short m = tt
-body-sensible fam a (setOf g) xs few short m = tt
-body-sensible fam a (superset es) xs few short m = record { few = omega arith; short = omega arith; explained = aSuperset a es xs m; unmet = superset-unmet fam a es xs few short; met = superset-met fam a es xs few short m }
-body-sensible fam a (subset es) xs few short m = record { few = omega arith; short = omega arith; explained = aSubset a es xs m; unmet = subset-unmet fam a es xs few short; met = subset-met fam a es xs few short m }
+body-sensible fam h (recordOf is) xs few short m = tt
+body-sensible fam h (setOf g) xs few short m = tt
+body-sensible fam h (superset es) xs few short m = record { few = omega arith; short = omega arith; explained = aSuperset h es xs m; unmet = superset-unmet fam h es xs few short; met = superset-met fam h es xs few short m }
+body-sensible fam h (subset es) xs few short m = record { few = omega arith; short = omega arith; explained = aSubset h es xs m; unmet = subset-unmet fam h es xs few short; met = subset-met fam h es xs few short m }
 
 asked-sensible : (fam : Family) (s : Template (LeafOf fam)) (xs : List (ElementOf fam)) → membersCount s ≤ 32 → length xs ≤ 32 → Sensible fam s xs (askedOf fam s xs)
 unfolding Sensible askedOf membersCount
-asked-sensible fam (template a b) xs few short = by-test (lengthMet a (length xs))
-    (λ m. subst (λ (t : Bool). Sensible fam (template a b) xs (cond t (askedBy fam b xs) ofNothing)) (sym m) (body-sensible fam a b xs few short m))
-    (λ m. subst (λ (t : Bool). Sensible fam (template a b) xs (cond t (askedBy fam b xs) ofNothing)) (sym m) tt)
+asked-sensible fam (template h b) xs few short = by-test (lengthMet (h .length) (length xs))
+    (λ m. subst (λ (t : Bool). Sensible fam (template h b) xs (cond t (askedBy fam b xs) ofNothing)) (sym m) (body-sensible fam h b xs few short m))
+    (λ m. subst (λ (t : Bool). Sensible fam (template h b) xs (cond t (askedBy fam b xs) ofNothing)) (sym m) tt)
 
 pub asked-question : {fam : Family} {s : Template (LeafOf fam)} {xs : List (ElementOf fam)} {ok : ℕ → ℕ → Bool} {k n : ℕ} → membersCount s ≤ 32 → length xs ≤ 32 → askedOf fam s xs ≡ ofGroups ok k n → Question fam s xs ok k n
 unfolding Sensible
@@ -134,5 +134,5 @@ asked-question {fam} {s} {xs} few short q = subst (Sensible fam s xs) q (asked-s
 -- something is asked of what is to be explained
 pub explained-asked : (fam : Family) {s : Template (LeafOf fam)} {xs : List (ElementOf fam)} → Explained s xs → (ok : ℕ → ℕ → Bool) × (k : ℕ) × (n : ℕ) × (askedOf fam s xs ≡ ofGroups ok k n)
 unfolding askedOf askedBy
-explained-asked fam (aSuperset a es xs m) = (pairs fam es xs, length es, length xs, ap (λ (t : Bool). cond t (ofGroups (pairs fam es xs) (length es) (length xs)) ofNothing) m)
-explained-asked fam (aSubset a es xs m) = ((λ e m. pairs fam es xs m e), length xs, length es, ap (λ (t : Bool). cond t (ofGroups (λ e m. pairs fam es xs m e) (length xs) (length es)) ofNothing) m)
+explained-asked fam (aSuperset h es xs m) = (pairs fam es xs, length es, length xs, ap (λ (t : Bool). cond t (ofGroups (pairs fam es xs) (length es) (length xs)) ofNothing) m)
+explained-asked fam (aSubset h es xs m) = ((λ e m. pairs fam es xs m e), length xs, length es, ap (λ (t : Bool). cond t (ofGroups (λ e m. pairs fam es xs m e) (length xs) (length es)) ofNothing) m)

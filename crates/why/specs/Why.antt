@@ -19,7 +19,7 @@ use lib.ListN.{length, getD}
 use Rattle.masks.specs.Masks.{bit}
 use Rattle.grammar.specs.Element.{Elem}
 use Rattle.format.specs.declared.Family.{Family}
-use Rattle.grammar.specs.Family.{LeafOf, leavesOf, ElementOf, noElement, matchesOf}
+use Rattle.grammar.specs.Family.{LeafOf, ElementOf, noElement, matchesOf}
 use Rattle.grammar.specs.Template.{Body, recordOf, setOf, superset, subset, Template, template}
 use Rattle.grammar.specs.Read.{Read, refuse, got}
 use Rattle.grammar.specs.Whole.{readTemplate}
@@ -42,9 +42,9 @@ askedBy f (superset es) xs = ofGroups (pairs f es xs) (length es) (length xs)
 askedBy f (subset es) xs = ofGroups (λ e m. pairs f es xs m e) (length xs) (length es)
 
 unfoldable pub askedOf : (f : Family) → Template (LeafOf f) → List (ElementOf f) → Asked
-askedOf f (template a b) xs = cond (lengthMet a (length xs)) (askedBy f b xs) ofNothing
+askedOf f (template h b) xs = cond (lengthMet (h .length) (length xs)) (askedBy f b xs) ofNothing
 
--- "When a superset doesn't match": the number is 1
+-- "When a superset doesn't match": the number is 1, and so no other, as 17 for a list with an element outside the type
 unfoldable pub GroupOf : Asked → ℕ → ℕ → Type 0
 GroupOf ofNothing r g = g ≡ 0
 GroupOf (ofGroups ok k n) r g = (r ≡ 1 → Reason ok k n (bit g) × ShortGroup ok k n (bit g)) × ((r ≡ 1 → ⊥) → g ≡ 0)
@@ -58,4 +58,4 @@ numberOf (given r room) = r
 
 pub record WhyOf (f : Family) (t : List ℕ) (xs : List (ElementOf f)) (r g : ℕ) : Type 0 where
   pub number : (room : List ℕ) → length xs ≤ length room → numberOf (matchAnswer f t xs room) ≡ r
-  pub group : GroupRead f (readTemplate (leavesOf f) t) xs r g
+  pub group : GroupRead f (readTemplate f t) xs r g

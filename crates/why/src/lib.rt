@@ -8,7 +8,6 @@ ghost use Rattle.plans.specs.Plans.{PlanOf};
 ghost use Rattle.matcher.specs.Contract.{Planning};
 ghost use Rattle.why.specs.Why.{WhyOf};
 ghost use Rattle.why.specs.Contract.{GroupFor};
-use elements::Sort;
 use format::DONE;
 use format::Family;
 use format::LIST_MOST;
@@ -17,6 +16,7 @@ use format::SUBSET;
 use format::SUPERSET;
 use matcher::length_met;
 use matcher::match_planned;
+use matcher::refusal_by;
 use member_rows::rows_of;
 use plans::Plan;
 use reasons::exchanged_reason;
@@ -45,7 +45,7 @@ fn group_of(template: &[u8], plan: Plan, integers: &[i32], floats: &[f64]) -> u3
     if LIST_MOST < size {
         return 0;
     }
-    if plan.number != DONE {
+    if refusal_by(plan.number, plan.sort, integers) != DONE {
         return 0;
     }
     if !length_met(plan.low, plan.high, size) {
@@ -64,13 +64,13 @@ fn group_of(template: &[u8], plan: Plan, integers: &[i32], floats: &[f64]) -> u3
     exchanged_reason(&rows, k, n)
 }
 
-// The matcher's number for a list of this sort, and why it does not match. A group shows that nothing obeys, so it is looked for first: the
+// The matcher's number for a list of this family, and why it does not match. A group shows that nothing obeys, so it is looked for first: the
 // search is for lists without one.
-fn why_any(template: &[u8], sort: Sort, integers: &[i32], floats: &[f64]) -> Why
-    requires { ⌜ Lent (sort .family) (now integers) (now floats) ⌝ }
-    ensures { λ r. ⌜ WhyOf (sort .family) (now (template .entry)) (listOf (sort .family) (now (integers .entry)) (now (floats .entry))) (r .number) (r .group) ⌝ }
+fn why_any(template: &[u8], family: Family, integers: &[i32], floats: &[f64]) -> Why
+    requires { ⌜ Lent family (now integers) (now floats) ⌝ }
+    ensures { λ r. ⌜ WhyOf family (now (template .entry)) (listOf family (now (integers .entry)) (now (floats .entry))) (r .number) (r .group) ⌝ }
 {
-    let plan = plan_of(template, sort);
+    let plan = plan_of(template, family);
     let group = group_of(template, plan, integers, floats);
     if group != 0 {
         return Why {
@@ -88,10 +88,7 @@ pub fn why_not(template: &[u8], list: &[i32]) -> Why
     ensures { λ r. ⌜ WhyOf Family.Integers (now (template .entry)) (now (list .entry)) (r .number) (r .group) ⌝ }
 {
     let none = [0.0f64; 1];
-    let sort = Sort {
-        family: Family::Integers,
-    };
-    why_any(template, sort, list, &none[..0])
+    why_any(template, Family::Integers, list, &none[..0])
 }
 
 // The same for a list of floats.
@@ -99,8 +96,5 @@ pub fn why_not_floats(template: &[u8], list: &[f64]) -> Why
     ensures { λ r. ⌜ WhyOf Family.Floats (now (template .entry)) (now (list .entry)) (r .number) (r .group) ⌝ }
 {
     let none = [0i32; 1];
-    let sort = Sort {
-        family: Family::Floats,
-    };
-    why_any(template, sort, &none[..0], list)
+    why_any(template, Family::Floats, &none[..0], list)
 }

@@ -2,6 +2,7 @@
 use mathlib.Core.Path.{_≡_, refl, sym, ap, _∙_}
 use mathlib.Core.Bool.{Bool, cond}
 use mathlib.Core.List.{List}
+use mathlib.Core.Logic.{⊎-elim}
 use Prim.Native.Nat.{ℕ, _+_}
 use native.Mathlib.Omega.{arith}
 use borrow.Author.Needs.{needs}
@@ -14,6 +15,7 @@ use Rattle.matching.specs.Answer.{Taken, judgeAnswer}
 use Rattle.matching.proofs.Answers.{judge-two, judge-eleven, judge-thirteen}
 use Rattle.matcher.proofs.ByPlan.{Ready, planned-ready, ready-inside}
 use Rattle.matcher.proofs.LentLists.{size-of, list-short, list-large, list-other, met-by, served}
+use Rattle.matcher.proofs.Inside.{Passed, passed-whole, passed-by, stopped-by}
 use Rattle.matcher.proofs.PlannedAnswers.{judge-refused, judge-unmet}
 use Rattle.matcher.proofs.JudgedPairs.{judge-wrong, judge-right}
 use Rattle.matcher.proofs.judge_planned.Statement.{statement}
@@ -52,7 +54,21 @@ same-size : (c : tie.Else3) → let start = c .before .before .before .before .b
 same-size c fam lent = c .if3 .left ∙ sym (size-of fam _ _ lent)
 
 returns-4 : tie.Need-returns-4
-returns-4 c fam plan lent = let long = c .before in judge-refused fam _ _ (taken (long .before) fam lent) _ plan _ (same-size long fam lent) (c .if4 .taken)
+returns-4 c fam plan lent =
+    let long = c .before .before .before .before .before in
+    judge-refused fam _ _ (taken (long .before) fam lent) _ plan _ (same-size long fam lent) _ (stopped-by fam _ _ _ _ lent _ (c .before .refusal-by .ensures) plan (c .if5 .taken))
+
+-- the template is accepted, and no element is outside its type
+passed : (c : tie.Joined4) → let start = c .before .before .before .before .before .before .before .before .before in (fam : Family) → PlanOf fam (start .args .template .now) (start .args .t2) → Listed start fam
+    → Passed fam (start .args .template .now) (start .args .t2) (xs start fam)
+passed c fam plan lent =
+    ⊎-elim
+    (λ w. passed-by fam _ _ _ _ lent _ (w .1 .ensures) plan (w .2 .left))
+    (λ w. passed-whole fam _ _ _ _ lent plan (w .left))
+    (c .if4 .came)
+
+refusal-by-requires : tie.Need-refusal-by-requires
+refusal-by-requires c κs = search needs
 
 length-met-requires : tie.Need-length-met-requires
 length-met-requires c κs = search needs
@@ -60,49 +76,51 @@ length-met-requires c κs = search needs
 returns-5 : tie.Need-returns-5
 returns-5 c fam plan lent =
     let zero = c .before .before in
-    let long = zero .before in
-    judge-unmet fam _ _ (taken (long .before) fam lent) _ plan (zero .if4 .left) _ (met-by fam _ _ lent _ _ _ (c .before .length-met .ensures)) _ (same-size long fam lent) (not-true _ (c .if5 .taken))
+    let long = zero .before .before .before in
+    judge-unmet fam _ _ (taken (long .before) fam lent) _ plan (passed zero fam plan lent) _ (met-by fam _ _ lent _ _ _ (c .before .length-met .ensures)) _ (same-size long fam lent) (not-true _ (c .if6 .taken))
 
 -- the plan of an accepted template, and a list that is short enough
-ready : (c : tie.Else4) → let start = c .before .before .before .before .before .before .before in Ready (start .pre .family) (start .args .template .now) (start .args .t2) (sum start)
-ready c = let start = c .before .before .before .before .before .before .before in planned-ready _ _ _ _ (start .pre .plan) (c .if4 .left) (c .before .before .if2 .left)
+ready : (c : tie.Joined4) → let start = c .before .before .before .before .before .before .before .before .before in Ready (start .pre .family) (start .args .template .now) (start .args .t2) (sum start)
+ready c =
+    let start = c .before .before .before .before .before .before .before .before .before in
+    planned-ready _ _ _ _ (start .pre .plan) (passed c (start .pre .family) (start .pre .plan) (start .pre .lent) .zero) (c .before .before .before .before .if2 .left)
 
 left-over-requires : tie.Need-left-over-requires
 left-over-requires c κs =
     let zero = c .before .before .before .before in
-    let start = zero .before .before .before .before .before .before .before in
-    (served _ _ _ _ _ _ (ready zero) refl (start .pre .lent), zero .before .if3 .left)
+    let start = zero .before .before .before .before .before .before .before .before .before in
+    (served _ _ _ _ _ _ (ready zero) refl (start .pre .lent), zero .before .before .before .if3 .left)
 
 returns-6 : tie.Need-returns-6
 returns-6 c fam plan lent =
     let paired = c .before in
     let met = paired .before .before .before in
     let zero = met .before .before in
-    let long = zero .before in
-    judge-wrong fam _ _ (taken (long .before) fam lent) _ plan (zero .if4 .left) _ (met-by fam _ _ lent _ _ _ (met .before .length-met .ensures)) (not-false _ (met .if5 .left)) _ (same-size long fam lent) _ (paired .left-over .ensures fam lent) (c .if6 .taken)
+    let long = zero .before .before .before in
+    judge-wrong fam _ _ (taken (long .before) fam lent) _ plan (passed zero fam plan lent) _ (met-by fam _ _ lent _ _ _ (met .before .length-met .ensures)) (not-false _ (met .if6 .left)) _ (same-size long fam lent) _ (paired .left-over .ensures fam lent) (c .if7 .taken)
 
 body-met-requires : tie.Need-body-met-requires
 body-met-requires c κs =
     let zero = c .before .before .before .before .before .before .before .before in
     let r = ready zero in
-    (r .planned .fewBlocks, omega (arith, zero .before .if3 .left, r .short), ready-inside r)
+    (r .planned .fewBlocks, omega (arith, zero .before .before .before .if3 .left, r .short), ready-inside r)
 
 -- what the test of the witness says is the answer
-says : (c : tie.After-body-met) → let start = c .before .before .before .before .before .before .before .before .before .before .before .before .before .before .before .before in
+says : (c : tie.After-body-met) → let start = c .before .before .before .before .before .before .before .before .before .before .before .before .before .before .before .before .before .before in
     (fam : Family) → PlanOf fam (start .args .template .now) (start .args .t2) → Listed start fam → cond (c .body-met .result) 0 1 ≡ judgeAnswer fam (start .args .template .now) (xs start fam) (start .args .witness .now)
 says c fam plan lent =
     let right = c .before .before .before in
     let paired = right .before in
     let met = paired .before .before .before in
     let zero = met .before .before in
-    let long = zero .before in
-    judge-right fam _ _ (taken (long .before) fam lent) _ plan (zero .if4 .left) _ (met-by fam _ _ lent _ _ _ (met .before .length-met .ensures)) (not-false _ (met .if5 .left)) _ (same-size long fam lent) _ (paired .left-over .ensures fam lent) (right .if6 .left) _ (c .body-met .ensures fam)
+    let long = zero .before .before .before in
+    judge-right fam _ _ (taken (long .before) fam lent) _ plan (passed zero fam plan lent) _ (met-by fam _ _ lent _ _ _ (met .before .length-met .ensures)) (not-false _ (met .if6 .left)) _ (same-size long fam lent) _ (paired .left-over .ensures fam lent) (right .if7 .left) _ (c .body-met .ensures fam)
 
 returns-7 : tie.Need-returns-7
-returns-7 c fam plan lent = sym (ap (λ (b : Bool). cond b 0 1) (c .if7 .taken)) ∙ says (c .before) fam plan lent
+returns-7 c fam plan lent = sym (ap (λ (b : Bool). cond b 0 1) (c .if8 .taken)) ∙ says (c .before) fam plan lent
 
 returns-8 : tie.Need-returns-8
-returns-8 c fam plan lent = sym (ap (λ (b : Bool). cond b 0 1) (c .if7 .left)) ∙ says (c .before) fam plan lent
+returns-8 c fam plan lent = sym (ap (λ (b : Bool). cond b 0 1) (c .if8 .left)) ∙ says (c .before) fam plan lent
 
 pub judge-planned-spec : {M : Type 1} → statement M
 judge-planned-spec =
@@ -112,6 +130,7 @@ judge-planned-spec =
     add-size
     returns-2
     returns-3
+    refusal-by-requires
     returns-4
     length-met-requires
     returns-5

@@ -2,6 +2,7 @@
 use mathlib.Core.Path.{_≡_, refl, sym, subst}
 use mathlib.Core.Bool.{Bool, _&&_}
 use mathlib.Core.List.{List}
+use mathlib.Core.Logic.{⊎-elim}
 use Prim.Native.Nat.{ℕ, _+_, _≤_}
 use native.Mathlib.Omega.{arith}
 use borrow.Author.Needs.{needs}
@@ -16,11 +17,13 @@ use Rattle.blocks.specs.Numbers.{blocksIn}
 use Rattle.blocks.specs.Pieces.{Best}
 use Rattle.records.specs.Records.{pairOf}
 use Rattle.witnesses.specs.ByKind.{Allows}
+use Rattle.plans.specs.Plans.{PlanOf}
 use Rattle.matching.specs.Answer.{Taken}
 use Rattle.matching.proofs.Answers.{match-two, match-eleven, match-twelve}
 use Rattle.matcher.specs.Contract.{Copied}
 use Rattle.matcher.proofs.ByPlan.{Ready, planned-ready, ready-below, ready-alone}
 use Rattle.matcher.proofs.LentLists.{size-of, list-short, list-large, met-by, served}
+use Rattle.matcher.proofs.Inside.{Passed, passed-whole, passed-by, stopped-by}
 use Rattle.matcher.proofs.PlannedAnswers.{match-refused, match-unmet, match-none, match-found}
 use Rattle.matcher.proofs.match_planned.Statement.{statement}
 use Rattle.matcher.proofs.match_planned.Tie as tie
@@ -58,7 +61,21 @@ roomy : (c : tie.Else3) → let start = c .before .before .before .before .befor
 roomy c fam lent = list-short fam _ _ lent _ (c .if3 .left)
 
 returns-4 : tie.Need-returns-4
-returns-4 c fam plan lent = let fits = c .before in match-refused fam _ _ (taken (fits .before) fam lent) _ plan _ (roomy fits fam lent) (c .if4 .taken)
+returns-4 c fam plan lent =
+    let fits = c .before .before .before .before .before in
+    match-refused fam _ _ (taken (fits .before) fam lent) _ plan _ (roomy fits fam lent) _ (stopped-by fam _ _ _ _ lent _ (c .before .refusal-by .ensures) plan (c .if5 .taken))
+
+-- the template is accepted, and no element is outside its type
+passed : (c : tie.Joined4) → let start = c .before .before .before .before .before .before .before .before .before in (fam : Family) → PlanOf fam (start .args .template .now) (start .args .plan) → Listed start fam
+    → Passed fam (start .args .template .now) (start .args .plan) (xs start fam)
+passed c fam plan lent =
+    ⊎-elim
+    (λ w. passed-by fam _ _ _ _ lent _ (w .1 .ensures) plan (w .2 .left))
+    (λ w. passed-whole fam _ _ _ _ lent plan (w .left))
+    (c .if4 .came)
+
+refusal-by-requires : tie.Need-refusal-by-requires
+refusal-by-requires c κs = search needs
 
 length-met-requires : tie.Need-length-met-requires
 length-met-requires c κs = search needs
@@ -66,26 +83,28 @@ length-met-requires c κs = search needs
 returns-5 : tie.Need-returns-5
 returns-5 c fam plan lent =
     let zero = c .before .before in
-    let fits = zero .before in
-    match-unmet fam _ _ (taken (fits .before) fam lent) _ plan (zero .if4 .left) _ (met-by fam _ _ lent _ _ _ (c .before .length-met .ensures)) _ (roomy fits fam lent) (not-true _ (c .if5 .taken))
+    let fits = zero .before .before .before in
+    match-unmet fam _ _ (taken (fits .before) fam lent) _ plan (passed zero fam plan lent) _ (met-by fam _ _ lent _ _ _ (c .before .length-met .ensures)) _ (roomy fits fam lent) (not-true _ (c .if6 .taken))
 
 -- the plan of an accepted template, and a list that is short enough
-ready : (c : tie.Else4) → let start = c .before .before .before .before .before .before .before in Ready (start .pre .family) (start .args .template .now) (start .args .plan) (sum start)
-ready c = let start = c .before .before .before .before .before .before .before in planned-ready _ _ _ _ (start .pre .plan) (c .if4 .left) (c .before .before .if2 .left)
+ready : (c : tie.Joined4) → let start = c .before .before .before .before .before .before .before .before .before in Ready (start .pre .family) (start .args .template .now) (start .args .plan) (sum start)
+ready c =
+    let start = c .before .before .before .before .before .before .before .before .before in
+    planned-ready _ _ _ _ (start .pre .plan) (passed c (start .pre .family) (start .pre .plan) (start .pre .lent) .zero) (c .before .before .before .before .if2 .left)
 
 first-witness-requires : tie.Need-first-witness-requires
 first-witness-requires c κs =
     let zero = c .before .before .before .before .before .before in
-    let start = zero .before .before .before .before .before .before .before in
+    let start = zero .before .before .before .before .before .before .before .before .before in
     let r = ready zero in
     (served _ _ _ _ _ _ r refl (start .pre .lent), r .planned .fewBlocks, ready-below r, ready-alone r)
 
 -- the first witness, by the length of the list
-best : (c : tie.After-first-witness) → let start = c .before .before .before .before .before .before .before .before .before .before .before .before .before .before in let p = start .args .plan in
+best : (c : tie.After-first-witness) → let start = c .before .before .before .before .before .before .before .before .before .before .before .before .before .before .before .before in let p = start .args .plan in
     (fam : Family) → Listed start fam → (es : List (Elem (LeafOf fam))) → Standing fam (start .args .template .now) es (take (p .members) (p .places))
     → Best (Allows (p .kind) (blocksIn (take (p .count) (p .blocks))) (p .members) (pairOf fam es (xs start fam)) (length (xs start fam))) (length (xs start fam)) (c .first-witness .result .found) (c .first-witness .result .w)
 best c fam lent es s =
-    let start = c .before .before .before .before .before .before .before .before .before .before .before .before .before .before in
+    let start = c .before .before .before .before .before .before .before .before .before .before .before .before .before .before .before .before in
     let p = start .args .plan in
     subst (λ (n : ℕ). Best (Allows (p .kind) (blocksIn (take (p .count) (p .blocks))) (p .members) (pairOf fam es (xs start fam)) n) n (c .first-witness .result .found) (c .first-witness .result .w)) (sym (size-of fam _ _ lent))
     (c .first-witness .ensures fam lent es s)
@@ -95,13 +114,13 @@ returns-6 c fam plan lent =
     let given = c .before .before in
     let met = given .before .before .before .before .before in
     let zero = met .before .before in
-    let fits = zero .before in
-    match-none fam _ _ (taken (fits .before) fam lent) _ plan (zero .if4 .left) _ (met-by fam _ _ lent _ _ _ (met .before .length-met .ensures)) (not-false _ (met .if5 .left)) _ _ (best given fam lent) _ (roomy fits fam lent) (not-true _ (c .if6 .taken))
+    let fits = zero .before .before .before in
+    match-none fam _ _ (taken (fits .before) fam lent) _ plan (passed zero fam plan lent) _ (met-by fam _ _ lent _ _ _ (met .before .length-met .ensures)) (not-false _ (met .if6 .left)) _ _ (best given fam lent) _ (roomy fits fam lent) (not-true _ (c .if7 .taken))
 
 write-witness-requires : tie.Need-write-witness-requires
 write-witness-requires c κs =
     let zero = c .before .before .before .before .before .before .before .before .before .before .before in
-    (zero .before .before .if2 .left, zero .before .if3 .left)
+    (zero .before .before .before .before .if2 .left, zero .before .before .before .if3 .left)
 
 same-length : tie.Need-same-length
 same-length c = search needs
@@ -112,9 +131,9 @@ returns-7 c fam plan lent =
     let given = there .before .before in
     let met = given .before .before .before .before .before in
     let zero = met .before .before in
-    let fits = zero .before in
-    let start = zero .before .before .before .before .before .before .before in
-    match-found fam _ _ (taken (fits .before) fam lent) _ plan (zero .if4 .left) _ (met-by fam _ _ lent _ _ _ (met .before .length-met .ensures)) (not-false _ (met .if5 .left)) _ _ (best given fam lent) _ (roomy fits fam lent) (not-false _ (there .if6 .left)) _
+    let fits = zero .before .before .before in
+    let start = zero .before .before .before .before .before .before .before .before .before in
+    match-found fam _ _ (taken (fits .before) fam lent) _ plan (passed zero fam plan lent) _ (met-by fam _ _ lent _ _ _ (met .before .length-met .ensures)) (not-false _ (met .if6 .left)) _ _ (best given fam lent) _ (roomy fits fam lent) (not-false _ (there .if7 .left)) _
     (subst (λ (n : ℕ). Copied n (given .first-witness .result .w) (start .args .room .now) (c .before .before .write-witness .last .1 .1 .0)) (sym (size-of fam _ _ lent)) (c .before .before .write-witness .ensures))
 
 pub match-planned-spec : {M : Type 1} → statement M
@@ -125,6 +144,7 @@ match-planned-spec =
     add-n
     returns-2
     returns-3
+    refusal-by-requires
     returns-4
     length-met-requires
     returns-5
