@@ -8,16 +8,17 @@ use Rattle.integers.specs.Integer.{signed, intAt}
 use Rattle.facts.specs.Counting.{between, cnt}
 use Rattle.blocks.specs.Assignment.{allOnce}
 use Rattle.grammar.specs.Template.{membersOfGroup, membersOfItem, membersOfItems, membersOf}
-use Rattle.grammar.specs.Record.{countFault, boundsFault, groupHead, head}
-use Rattle.grammar.specs.Leaf.{singleHead, rangeHead, leafHead}
-use Rattle.grammar.specs.Read.{verdict, ended, mapRead}
+use Rattle.grammar.specs.Record.{countFault, boundsFault, typeFault, groupHead, head}
+use Rattle.grammar.specs.Family.{someOutside}
+use Rattle.grammar.specs.Leaf.{singleHead, rangeHead, leafHead, reaches, ofType}
+use Rattle.grammar.specs.Read.{verdict, ended, mapRead, andThen}
 use Rattle.grammar.specs.Reading.{uncounted, putFirst, thenMore, many, closed, tooDeep, opened, elem}
-use Rattle.grammar.specs.Whole.{starHere, numbered, putMember, thenMembers, thenStar, putItem, thenItems, clashes, member, members, permutationHere, item, items, contents, bodyHere, templateHere, readTemplate}
+use Rattle.grammar.specs.Whole.{starHere, numbered, putMember, thenMembers, thenStar, putItem, thenItems, clashes, member, members, permutationHere, item, items, contents, bodyHere, lengthHere, typeHere, headsHere, templateHere, readTemplate}
 use Rattle.grammar.specs.Matches.{matchesBy, leafMatches}
 use Rattle.grammar.specs.Members.{memberHits}
 use Rattle.matching.specs.Obeys.{rightBytes, noneTwice, allSpare, withinBlock, starMet, groupTakes, itemTakes, someCut, cuts, bodyMet, lengthMet, obeysBy}
 use Rattle.matching.specs.Search.{put, orElse, tryEach, firstOf, from, membersCount, firstWitness}
-use Rattle.matching.specs.Answer.{written, matchRead, matchAnswer}
+use Rattle.matching.specs.Answer.{written, elementOutside, matchRead, matchAnswer}
 use Rattle.lines.specs.Line.{digitsBy, decimal, spaceThen, spaced, line}
 use Rattle.stream.specs.Input.{recordFault, putInteger, integers, listFault, listHere, reached}
 use Rattle.intake_lines.specs.Output.{answered, listLine, turned, turn, follow, linesBy, linesFrom, started, output}
@@ -50,8 +51,9 @@ examples =
     row (80 ∷ 2 ∷ 0 ∷ 16 ∷ 0 ∷ 64 ∷ 0 ∷ 0 ∷ []) (49 ∷ 32 ∷ 48 ∷ 32 ∷ 48 ∷ 10 ∷ 50 ∷ 32 ∷ 52 ∷ 32 ∷ 48 ∷ 10 ∷ []) ∷  -- a stray byte after a list is the next list's kind
     row (80 ∷ 2 ∷ 0 ∷ 16 ∷ 0 ∷ 64 ∷ 1 ∷ 2 ∷ []) (49 ∷ 32 ∷ 52 ∷ 32 ∷ 48 ∷ 10 ∷ []) ∷  -- a wrong kind in a list
     row (80 ∷ 2 ∷ 0 ∷ 16 ∷ 0 ∷ 64 ∷ 1 ∷ 1 ∷ 0 ∷ 0 ∷ []) (49 ∷ 32 ∷ 51 ∷ 32 ∷ 48 ∷ 10 ∷ []) ∷  -- missing bytes in a list
+    row (80 ∷ 12 ∷ 0 ∷ 49 ∷ 0 ∷ 0 ∷ 0 ∷ 0 ∷ 23 ∷ 0 ∷ 0 ∷ 0 ∷ 16 ∷ 1 ∷ 3 ∷ 64 ∷ 1 ∷ 1 ∷ 40 ∷ 0 ∷ 0 ∷ 0 ∷ 64 ∷ 1 ∷ 1 ∷ 12 ∷ 0 ∷ 0 ∷ 0 ∷ []) (49 ∷ 32 ∷ 49 ∷ 55 ∷ 32 ∷ 49 ∷ 10 ∷ 50 ∷ 32 ∷ 48 ∷ 32 ∷ 49 ∷ 32 ∷ 48 ∷ 10 ∷ []) ∷  -- a list with a 40 among hours 0 to 23 is refused, and the next one is read
     []
 
 examples-right : right examples ≡ true
-unfolding right sameBytes examples signed intAt between cnt allOnce membersOfGroup membersOfItem membersOfItems membersOf countFault boundsFault groupHead head singleHead rangeHead leafHead verdict ended uncounted putFirst thenMore many closed tooDeep opened elem mapRead starHere numbered putMember thenMembers thenStar putItem thenItems clashes member members permutationHere item items contents bodyHere templateHere readTemplate matchesBy leafMatches memberHits rightBytes noneTwice allSpare withinBlock starMet groupTakes itemTakes someCut cuts bodyMet lengthMet obeysBy put orElse tryEach firstOf from membersCount firstWitness written matchRead matchAnswer digitsBy decimal spaceThen spaced line recordFault putInteger integers listFault listHere reached answered listLine turned turn follow linesBy linesFrom started output
+unfolding right sameBytes examples signed intAt between cnt allOnce membersOfGroup membersOfItem membersOfItems membersOf countFault boundsFault typeFault groupHead head singleHead rangeHead leafHead reaches ofType verdict ended uncounted putFirst thenMore many closed tooDeep opened elem mapRead starHere numbered putMember thenMembers thenStar putItem thenItems clashes member members permutationHere item items contents bodyHere lengthHere typeHere headsHere andThen templateHere readTemplate matchesBy leafMatches memberHits rightBytes noneTwice allSpare withinBlock starMet groupTakes itemTakes someCut cuts bodyMet lengthMet obeysBy put orElse tryEach firstOf from membersCount firstWitness written someOutside elementOutside matchRead matchAnswer digitsBy decimal spaceThen spaced line recordFault putInteger integers listFault listHere reached answered listLine turned turn follow linesBy linesFrom started output
 examples-right = refl

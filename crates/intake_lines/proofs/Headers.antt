@@ -8,7 +8,6 @@ use native.Mathlib.Nat.{pos-of-ne-zero}
 use lib.ListN.{length, take, drop}
 use borrow.Author.Tests.{lt-ltb, le-ltb}
 use Rattle.format.specs.declared.Family.{Family}
-use Rattle.grammar.specs.Leaf.{leafHead}
 use Rattle.grammar.specs.Read.{Read, got, refuseOr, verdict}
 use Rattle.grammar.specs.Whole.{readTemplate}
 use Rattle.plans.specs.Plans.{noPlan, PlanOf, refusedPlan, aPlan}
@@ -48,7 +47,7 @@ module _ (s : List ℕ) (p : Plan) where
         whole : Read (List ℕ)
         whole = got (templateIn s) (drop (afterTemplate s) s)
 
-        here : reached s ≡ refuseOr (verdict (readTemplate leafHead (take (end - 3) (drop 3 s)))) whole
+        here : reached s ≡ refuseOr (verdict (readTemplate Family.Integers (take (end - 3) (drop 3 s)))) whole
         here = rw (le-ltb 65536 (length s) fits, ← known, none, le-ltb (length s) (afterTemplate s) (omega arith), size)
 
         go : PlanOf Family.Integers (take (end - 3) (drop 3 s)) p → InputPlan s p

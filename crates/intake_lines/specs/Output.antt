@@ -2,7 +2,8 @@
 -- bytes of the witness in decimal").
 -- Turn             == what one turn prints: the last bytes, or some bytes, with the input that is left
 -- emptyRoom        == the room that a list's witness is written into: 32 zero bytes
--- answered k n g   == the line of the list number k with n elements, for which the matcher gives g: the witness only on a match
+-- answered k n g   == the line of the list number k with n elements, for which the matcher gives g: the witness only on a match. A list with an
+--                     element outside the type prints `k 17 n`, and the next list follows
 -- listLine t k xs  == the line of the list xs, number k, for the template t
 -- turned t k o     == the turn of the list number k that was read as o: a fault in reading it prints `k R 0` and ends
 -- turn t k s       == the turn at the bytes s, where the list number k is next: nothing is printed where they have ended

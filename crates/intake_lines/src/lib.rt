@@ -6,7 +6,6 @@ ghost use Rattle.format.specs.declared.Family.{Family};
 ghost use Rattle.plans.specs.Plans.{PlanOf};
 ghost use Rattle.intake_lines.specs.Output.{listLine, turn};
 ghost use Rattle.intake_lines.specs.Contract.{InputPlan, Headed, StepFits, Turned};
-use elements::Sort;
 use format::DONE;
 use format::Family;
 use format::INPUT_MOST;
@@ -38,10 +37,7 @@ fn input_plan(input: &[u8]) -> Plan
     if input.len() < end {
         return no_plan(MISSING);
     }
-    let sort = Sort {
-        family: Family::Integers,
-    };
-    plan_of(&input[TEMPLATE_SIZE..end], sort)
+    plan_of(&input[TEMPLATE_SIZE..end], Family::Integers)
 }
 
 // How an input begins: how many bytes were written, the place of the first list, whether there is a first turn, and the plan of its template.

@@ -7,7 +7,7 @@ use Prim.Native.Nat.{ℕ, zero, suc, _+_, _*_, _-_, _≤_, _<_}
 use native.Mathlib.Omega.{arith}
 use lib.ListN.{length, length-append}
 use Rattle.facts.proofs.Cases.{below}
-use Rattle.grammar.specs.Leaf.{leafHead}
+use Rattle.format.specs.declared.Family.{Family}
 use Rattle.grammar.specs.Read.{Read, refuse, got, verdict}
 use Rattle.grammar.specs.Whole.{readTemplate}
 use Rattle.lines.specs.Line.{decimal}
@@ -107,7 +107,7 @@ bound-more l m k n n′ e small size rest b =
     (λ (a : (k + 1 < 10000) × (m ≤ 10 * (10000 - (k + 1)) + n′ + 11)). let a₀ = a .0 in let a₁ = a .1 in inr (omega arith, omega arith))
     b
 
-lines-bound : (f : ℕ) (t : List ℕ) (k : ℕ) (s : List ℕ) → verdict (readTemplate leafHead t) ≡ 0 → 2 * k + length s ≤ 65540 → Bound (length (linesBy f t k s)) k (length s)
+lines-bound : (f : ℕ) (t : List ℕ) (k : ℕ) (s : List ℕ) → verdict (readTemplate Family.Integers t) ≡ 0 → 2 * k + length s ≤ 65540 → Bound (length (linesBy f t k s)) k (length s)
 unfolding linesBy follow
 lines-bound zero t k s accepted few = bound-last 0 k (length s) (omega arith) (omega arith)
 lines-bound (suc f) t k s accepted few = by-turn (λ s′ h. lines-bound f t (k + 1) s′ accepted h) (turn t k s) refl

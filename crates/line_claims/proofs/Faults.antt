@@ -12,11 +12,12 @@ use lib.IntN.{ℤ}
 use Rattle.facts.proofs.Cases.{by-test}
 use Rattle.integers.specs.Integer.{intAt}
 use Rattle.format.specs.declared.Family.{Family}
-use Rattle.grammar.specs.Leaf.{Leaf, leafHead}
-use Rattle.grammar.specs.Read.{Read, refuse, got, orRefuse, refuseOr, verdict, ended}
-use Rattle.grammar.specs.Record.{kindOf, countFault, boundsFault, outside}
-use Rattle.grammar.specs.Template.{Template, anyLength}
-use Rattle.grammar.specs.Whole.{bodyHere, templateHere, readTemplate}
+use Rattle.grammar.specs.Family.{RowOf}
+use Rattle.grammar.specs.Leaf.{Leaf}
+use Rattle.grammar.specs.Read.{Read, refuse, got, orRefuse, refuseOr, verdict, ended, andThen}
+use Rattle.grammar.specs.Record.{Head, kindOf, countFault, boundsFault, typeFault, outside}
+use Rattle.grammar.specs.Template.{Heads, Template}
+use Rattle.grammar.specs.Whole.{bodyHere, lengthHere, typeHere, headsHere, templateHere, readTemplate}
 use Rattle.grammar.proofs.ReadApart.{clash}
 use Rattle.grammar.proofs.RefusalNumbers.{Cases, isRefused, isRead, read-cases, template-row}
 use Rattle.lines.specs.Line.{decimal, spaceThen, spaced, line}
@@ -102,9 +103,13 @@ last-size t k s l e =
 
 -- ---- the line of a refused input
 
-verdict-small : (o : Read (Template Leaf)) → ((r : ℕ) → o ≡ refuse r → r ≤ 10) → verdict o ≤ 10
+row-small : (r : ℕ) → RowOf Family.Integers r → r ≤ 16
+row-small r (inl row) = let most = row .1 in omega arith
+row-small r (inr e) = omega arith
+
+verdict-small : (o : Read (Template Leaf)) → ((r : ℕ) → o ≡ refuse r → RowOf Family.Integers r) → verdict o ≤ 16
 unfolding verdict
-verdict-small (refuse r) h = h r refl
+verdict-small (refuse r) h = row-small r (h r refl)
 verdict-small (got p s) h = omega arith
 
 reached-refusal : (s : List ℕ) (r : ℕ) → reached s ≡ refuse r → r < 256
@@ -112,14 +117,14 @@ unfolding reached
 reached-refusal s r e = size (ltb 65536 (length s)) e
   where
     rest : Read (List ℕ)
-    rest = refuseOr (verdict (readTemplate leafHead (templateIn s))) (got (templateIn s) (drop (afterTemplate s) s))
+    rest = refuseOr (verdict (readTemplate Family.Integers (templateIn s))) (got (templateIn s) (drop (afterTemplate s) s))
 
     own : rest ≡ refuse r → r < 256
     own q =
         ⊎-elim
-        (λ (a : verdict (readTemplate leafHead (templateIn s)) ≡ r). let h = verdict-small (readTemplate leafHead (templateIn s)) (λ n q. template-row Family.Integers (templateIn s) n q .row .1) in omega arith)
+        (λ (a : verdict (readTemplate Family.Integers (templateIn s)) ≡ r). let h = verdict-small (readTemplate Family.Integers (templateIn s)) (λ n q. template-row Family.Integers (templateIn s) n q .row) in omega arith)
         (λ (a : got (templateIn s) (drop (afterTemplate s) s) ≡ refuse r). absurd (clash (sym a)))
-        (refused-by (verdict (readTemplate leafHead (templateIn s))) (got (templateIn s) (drop (afterTemplate s) s)) r q)
+        (refused-by (verdict (readTemplate Family.Integers (templateIn s))) (got (templateIn s) (drop (afterTemplate s) s)) r q)
 
     missing : (b : Bool) → orRefuse b 3 rest ≡ refuse r → r < 256
     missing true q = let n : 3 ≡ r = cc in omega arith
@@ -141,9 +146,9 @@ refusal-size s r e = let d = fault-line 0 r 4 (byte-next r (reached-refusal s r 
 data Refuses {A : Type 0} (o : Read A) : Type 0 where
   refuses : (r : ℕ) → o ≡ refuse r → Refuses o
 
-short-body : (s : List ℕ) → length s < 2 → Refuses (bodyHere leafHead anyLength s)
+short-body : {L : Type 0} (leaves : List ℕ → Head L) (h : Heads) (s : List ℕ) → length s < 2 → Refuses (bodyHere leaves h s)
 unfolding bodyHere countFault
-short-body s short =
+short-body leaves h s short =
     by-test (eqb (length s) 0)
     (λ (a : eqb (length s) 0 ≡ true). refuses 3 (rw a))
     (λ (a : eqb (length s) 0 ≡ false).
@@ -151,14 +156,17 @@ short-body s short =
     (λ (b : outside 0x10 0x13 (kindOf s) ≡ true). refuses 4 (rw (a, b)))
     (λ (b : outside 0x10 0x13 (kindOf s) ≡ false). refuses 3 (rw (a, b, lt-ltb (length s) 2 short))))
 
-short-template : (s : List ℕ) → length s < 2 → Refuses (templateHere leafHead s)
-unfolding templateHere boundsFault
+short-template : (s : List ℕ) → length s < 2 → Refuses (templateHere Family.Integers s)
+unfolding templateHere headsHere lengthHere typeHere andThen boundsFault typeFault
 short-template s short =
     by-test (eqb (kindOf s) 0x30)
     (λ (a : eqb (kindOf s) 0x30 ≡ true). refuses 3 (rw (a, lt-ltb (length s) 3 (omega arith))))
-    (λ (a : eqb (kindOf s) 0x30 ≡ false). rw a (short-body s short))
+    (λ (a : eqb (kindOf s) 0x30 ≡ false).
+    by-test (eqb (kindOf s) 0x31)
+    (λ (b : eqb (kindOf s) 0x31 ≡ true). refuses 3 (rw (a, b, lt-ltb (length s) 9 (omega arith))))
+    (λ (b : eqb (kindOf s) 0x31 ≡ false). rw (a, b) (short-body _ _ s short)))
 
-short-unread : (t : List ℕ) (p : Template Leaf) → Refuses (templateHere leafHead t) → readTemplate leafHead t ≡ got p [] → ⊥
+short-unread : (t : List ℕ) (p : Template Leaf) → Refuses (templateHere Family.Integers t) → readTemplate Family.Integers t ≡ got p [] → ⊥
 unfolding readTemplate ended
 short-unread t p (refuses r f) q = never (ltb 4096 (length t)) (ap (λ o. orRefuse (ltb 4096 (length t)) 2 (ended o)) (sym f) ∙ q)
   where
@@ -166,11 +174,11 @@ short-unread t p (refuses r f) q = never (ltb 4096 (length t)) (ap (λ o. orRefu
     never true h = clash h
     never false h = clash h
 
-pub two-bytes : (t : List ℕ) → verdict (readTemplate leafHead t) ≡ 0 → 2 ≤ length t
+pub two-bytes : (t : List ℕ) → verdict (readTemplate Family.Integers t) ≡ 0 → 2 ≤ length t
 unfolding verdict
 two-bytes t e = by-reading (read-cases Family.Integers t)
   where
-    by-reading : Cases (readTemplate leafHead t) → 2 ≤ length t
+    by-reading : Cases (readTemplate Family.Integers t) → 2 ≤ length t
     by-reading (isRefused r q more) = let z = sym e ∙ ap verdict q in absurd (omega arith)
     by-reading (isRead p q) =
         by-test (ltb (length t) 2)

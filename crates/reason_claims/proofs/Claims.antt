@@ -1,7 +1,7 @@
 -- The claims of specs/Claims.antt, proved. Assumes nothing.
 use mathlib.Core.Path.{_≡_, refl, sym, ap, _∙_, subst, subst₂}
 use mathlib.Core.Bool.{Bool}
-use mathlib.Core.Logic.{inl, inr, ⊎-elim}
+use mathlib.Core.Logic.{_⊎_, inl, inr, ⊎-elim}
 use mathlib.Core.List.{List, []}
 use Prim.Native.Nat.{ℕ, _≤_, _<_}
 use native.Mathlib.Omega.{arith}
@@ -9,7 +9,7 @@ use lib.ListN.{length}
 use lib.IntN.{ℤ}
 use lib.Ieee.{Float}
 use Rattle.format.specs.declared.Family.{Family}
-use Rattle.grammar.specs.Family.{LeafOf, leavesOf, ElementOf, RowOf}
+use Rattle.grammar.specs.Family.{LeafOf, ElementOf, RowOf}
 use Rattle.grammar.specs.Template.{Template}
 use Rattle.grammar.specs.Read.{got}
 use Rattle.grammar.specs.Whole.{readTemplate}
@@ -63,13 +63,13 @@ behind : (fam : Family) (t : List ℕ) (xs : List (ElementOf fam)) (r g : ℕ) �
 unfolding GroupRead GroupOf
 behind fam t xs r g h some = read (read-cases fam t)
   where
-    asked : (s : Template (LeafOf fam)) → readTemplate (leavesOf fam) t ≡ got s [] → (a : Asked) → askedOf fam s xs ≡ a → (s : Template (LeafOf fam)) × Unmatched fam t xs s × Explained s xs
+    asked : (s : Template (LeafOf fam)) → readTemplate fam t ≡ got s [] → (a : Asked) → askedOf fam s xs ≡ a → (s : Template (LeafOf fam)) × Unmatched fam t xs s × Explained s xs
     asked s q ofNothing e = absurd (some (subst (λ a. GroupOf a r g) e (subst (λ o. GroupRead fam o xs r g) q (h .group))))
     asked s q (ofGroups ok k n) e =
         let u = one-behind fam t xs (ownRoom xs) s (λ _. own-enough xs) (h .number (ownRoom xs) (own-enough xs) ∙ given-one h some q e .0) q in
         (s, u, asked-question (few-members fam t s q) (u .taken .1) e .explained)
 
-    read : Cases (readTemplate (leavesOf fam) t) → (s : Template (LeafOf fam)) × Unmatched fam t xs s × Explained s xs
+    read : Cases (readTemplate fam t) → (s : Template (LeafOf fam)) × Unmatched fam t xs s × Explained s xs
     read (isRefused q e p) = absurd (some (subst (λ o. GroupRead fam o xs r g) e (h .group)))
     read (isRead s e) = asked s e (askedOf fam s xs) refl
 
@@ -103,7 +103,7 @@ neverTwelve fam t xs r g c =
     let same : r ≡ q = numberAgrees fam t xs r g c (ownRoom xs) (m .1) q (own-enough xs) (m .2) in
     let given = first .matcher fam t xs (ownRoom xs) q (m .1) (m .2) in
     let twelve : q ≡ 12 → ⊥ = λ e. roomy (given .twelve .0 e .1) in
-    ⊎-elim (λ (most : q ≤ 12). inl (omega (arith, twelve))) (λ (row : RowOf fam q). inr (subst (RowOf fam) (sym same) row)) (given .numbers)
+    ⊎-elim (λ (most : q ≤ 12). inl (omega (arith, twelve))) (λ (above : RowOf fam q ⊎ (q ≡ 17)). inr (subst (λ (n : ℕ). RowOf fam n ⊎ (n ≡ 17)) (sym same) above)) (given .numbers)
   where
     roomy : length (ownRoom xs) < length xs → ⊥
     roomy h = let l = own-enough xs in omega arith

@@ -11,7 +11,7 @@
 -- NoneShorter   <-> no group's shortfall is greater
 -- InsideOthers  <-> of the groups whose shortfall is greatest it "lies inside all the others"
 -- NumberAgrees  <-> the number is the matcher's, with room enough
--- NeverTwelve   <-> the number is at most 11, or of a row about the template: nothing is lent, so no room is too short, and no witness is offered
+-- NeverTwelve   <-> the number is at most 11, or of a row about the template, or 17: nothing is lent, so no room is too short, and no witness is offered
 -- ShortExactly  <-> a group that is short "exists exactly when no assignment does"
 -- Assumes nothing: these are statements, proved in proofs/Claims.antt.
 use mathlib.Core.Path.{_≡_}
@@ -23,7 +23,7 @@ use lib.ListN.{length}
 use Rattle.facts.specs.Counting.{count}
 use Rattle.masks.specs.Masks.{bit}
 use Rattle.format.specs.declared.Family.{Family}
-use Rattle.grammar.specs.Family.{LeafOf, leavesOf, ElementOf, RowOf}
+use Rattle.grammar.specs.Family.{LeafOf, ElementOf, RowOf}
 use Rattle.grammar.specs.Read.{got}
 use Rattle.grammar.specs.Template.{Template}
 use Rattle.grammar.specs.Whole.{readTemplate}
@@ -59,7 +59,7 @@ GivenWhere = (f : Family) (t : List ℕ) (xs : List (ElementOf f)) (r g : ℕ) �
     → ((g ≡ 0 → ⊥) → (s : Template (LeafOf f)) × Unmatched f t xs s × Explained s xs) × ((s : Template (LeafOf f)) → Unmatched f t xs s → Explained s xs → g ≡ 0 → ⊥)
 
 abbrev pub OfGiven : ((ℕ → ℕ → Bool) → ℕ → ℕ → ℕ → Type 0) → Type 0
-OfGiven P = (f : Family) (t : List ℕ) (xs : List (ElementOf f)) (r g : ℕ) → WhyCall f t xs r g → (g ≡ 0 → ⊥) → (s : Template (LeafOf f)) → readTemplate (leavesOf f) t ≡ got s []
+OfGiven P = (f : Family) (t : List ℕ) (xs : List (ElementOf f)) (r g : ℕ) → WhyCall f t xs r g → (g ≡ 0 → ⊥) → (s : Template (LeafOf f)) → readTemplate f t ≡ got s []
     → (ok : ℕ → ℕ → Bool) (k n : ℕ) → askedOf f s xs ≡ ofGroups ok k n → P ok k n g
 
 abbrev pub GivenShort : Type 0
@@ -76,10 +76,10 @@ NumberAgrees = (f : Family) (t : List ℕ) (xs : List (ElementOf f)) (r g : ℕ)
     → (room after : List ℕ) (q : ℕ) → length xs ≤ length room → MatchCall f t xs room q after → r ≡ q
 
 abbrev pub NeverTwelve : Type 0
-NeverTwelve = (f : Family) (t : List ℕ) (xs : List (ElementOf f)) (r g : ℕ) → WhyCall f t xs r g → (r ≤ 11) ⊎ RowOf f r
+NeverTwelve = (f : Family) (t : List ℕ) (xs : List (ElementOf f)) (r g : ℕ) → WhyCall f t xs r g → (r ≤ 11) ⊎ (RowOf f r ⊎ (r ≡ 17))
 
 abbrev pub ShortExactly : Type 0
-ShortExactly = (f : Family) (t : List ℕ) (xs : List (ElementOf f)) (s : Template (LeafOf f)) → Taken t xs → readTemplate (leavesOf f) t ≡ got s []
+ShortExactly = (f : Family) (t : List ℕ) (xs : List (ElementOf f)) (s : Template (LeafOf f)) → Taken t xs → readTemplate f t ≡ got s []
     → (ok : ℕ → ℕ → Bool) (k n : ℕ) → askedOf f s xs ≡ ofGroups ok k n
     → ((G : ℕ → Bool) → ShortGroup ok k n G → (w : List ℕ) → obeys f s xs w ≡ true → ⊥)
     × (((w : List ℕ) → obeys f s xs w ≡ true → ⊥) → (G : ℕ → Bool) × ShortGroup ok k n G)

@@ -18,9 +18,9 @@ use Prim.Native.Nat.{ℕ, zero, suc, _+_, _*_}
 use lib.Dec.{ltb, eqb}
 use lib.ListN.{length, getD, take, drop}
 use lib.IntN.{ℤ}
+use Rattle.format.specs.declared.Family.{Family}
 use Rattle.integers.specs.Integer.{intAt}
 use Rattle.grammar.specs.Record.{kindOf}
-use Rattle.grammar.specs.Leaf.{leafHead}
 use Rattle.grammar.specs.Read.{Read, refuse, got, orRefuse, refuseOr, verdict}
 use Rattle.grammar.specs.Whole.{readTemplate}
 
@@ -62,5 +62,5 @@ reached s =
     orRefuse (ltb 65536 (length s)) 2
     (refuseOr (recordFault 0x50 3 s)
     (orRefuse (ltb (length s) (afterTemplate s)) 3
-    (refuseOr (verdict (readTemplate leafHead (templateIn s)))
+    (refuseOr (verdict (readTemplate Family.Integers (templateIn s)))
     (got (templateIn s) (drop (afterTemplate s) s)))))
