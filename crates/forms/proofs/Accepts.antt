@@ -1,27 +1,28 @@
--- What is known of an element template that was read: 32-bit integers, bounds in order, at least one leaf, at most 64. Assumes nothing.
+-- What is known of an element template that was read: 32-bit integers, bounds in order, at least one leaf, at most 64; and with a type none outside it.
+-- Assumes nothing.
 use mathlib.Core.Path.{_≡_, refl, sym, ap, _∙_}
 use mathlib.Core.Bool.{true, false}
 use mathlib.Core.List.{List, [], _∷_}
-use mathlib.Core.Logic.{⊎-elim}
 use Prim.Native.Nat.{ℕ, zero, suc, _+_, _-_, _≤_, _<_}
 use native.Mathlib.Omega.{arith}
 use lib.Dec.{ltb}
 use lib.IntN.{ℤ}
 use lib.Signed.{ltZ, _≤ℤ_}
-use lib.ListN.{length, getD, drop}
+use lib.ListN.{length, drop}
 use borrow.Author.Tests.{ltb-false, le-ltb}
 use Rattle.ranges.proofs.JoinsAndGaps.{of-rank}
 use Rattle.format.specs.declared.Family.{Family}
 use Rattle.grammar.specs.Element.{Elem, leaf, oneOf, noneOf, Elems, none, more, leaves, leavesAll}
-use Rattle.grammar.specs.Leaf.{Leaf, single, range, any, leafHead}
+use Rattle.grammar.specs.Leaf.{Leaf, single, range, any, leafHead, typedHead}
 use Rattle.grammar.specs.Read.{Read, refuse, got, ended}
 use Rattle.grammar.specs.Reading.{Counted, counted, uncounted, many, elem, readElement}
-use Rattle.grammar.specs.Record.{leafHere, head}
+use Rattle.grammar.specs.Record.{Head, leafHere, head}
 use Rattle.grammar.proofs.ReadApart.{Got, gotLeaf, gotGroup, elem-inv, many-inv, many-none, LeafAt, singleAt, rangeAt, anyAt, leaf-at, group-at}
-use Rattle.integers.specs.Integer.{Word, joined, signed, intAt}
+use Rattle.grammar.proofs.TypedReading.{Inside, untyped, typed}
+use Rattle.integers.specs.Integer.{Word, intAt}
 use Rattle.integers.specs.Rank.{rank}
-use Rattle.facts.proofs.Cases.{by-test, below}
-use Rattle.integers.proofs.FourBytes.{signed-low, signed-high}
+use Rattle.facts.proofs.Cases.{by-test}
+use Rattle.integers.proofs.FourBytes.{word-intAt}
 use Rattle.integers.proofs.Ranks.{low, rank-ltZ}
 
 abbrev pub GoodLeaf : Leaf → Type 0
@@ -38,18 +39,6 @@ unfoldable mutual
   pub GoodAll : Elems Leaf → Type 0
   GoodAll none = Unit {0}
   GoodAll (more e es) = Good e × GoodAll es
-
--- every integer that is read is a 32-bit one, whatever the bytes are
-pub word-intAt : (s : List ℕ) (i : ℕ) → Word (intAt s i)
-unfolding intAt
-word-intAt s i = word-any (joined (getD s i 0) (getD s (i + 1) 0) (getD s (i + 2) 0) (getD s (i + 3) 0))
-  where
-    word-any : (u : ℕ) → Word (signed u)
-    word-any u =
-        ⊎-elim
-        (λ (h : u < 2147483648). rw (signed-low u h) h)
-        (λ (h : 2147483648 ≤ u). rw (signed-high u h) (omega arith))
-        (below u 2147483648)
 
 pub ordered : (a b : ℤ) → Word a → Word b → ltZ b a ≡ false → a ≤ℤ b
 ordered a b p q e = of-rank a b (low a p) (low b q) (ltb-false (rank b) (rank a) (sym (rank-ltZ b a q p) ∙ e))
@@ -117,31 +106,48 @@ elem-facts (suc left) k s e k′ s′ q =
 
 -- ---- the whole input
 
-pub record IsRead (t : List ℕ) (e : Elem Leaf) : Type 0 where
-  pub after : ℕ
-  pub small : length t ≤ 4096
-  pub reads : elem leafHead 8 0 t ≡ got (counted e after) []
+module _ (leaves : List ℕ → Head Leaf) (t : List ℕ) (e : Elem Leaf) where
+  pub record IsRead : Type 0 where
+    pub after : ℕ
+    pub small : length t ≤ 4096
+    pub reads : elem leaves 8 0 t ≡ got (counted e after) []
 
-pub read-inv : (t : List ℕ) (e : Elem Leaf) → readElement leafHead t ≡ got e [] → IsRead t e
-unfolding readElement ended uncounted
-read-inv t e q =
-    by-test (ltb 4096 (length t))
-    (λ b. let h : refuse 2 ≡ got e [] = rw b at q in let z : _≡_ {A = ℕ} 0 1 = cc in absurd (omega arith))
-    (λ b. go (elem leafHead 8 0 t) refl (ltb-false 4096 (length t) b) (rw b at q))
-  where
-    go : (o : Read (Counted (Elem Leaf))) → elem leafHead 8 0 t ≡ o → length t ≤ 4096 → ended (uncounted o) ≡ got e [] → IsRead t e
-    go (refuse r) f l h = let z : _≡_ {A = ℕ} 0 1 = cc in absurd (omega arith)
-    go (got (counted e′ k) []) f l h =
-        let same : e′ ≡ e = cc in
-        record { after = k; small = l; reads = f ∙ ap (λ (v : Elem Leaf). got (counted v k) []) same }
-    go (got (counted e′ k) (x ∷ s)) f l h = let z : _≡_ {A = ℕ} 0 1 = cc in absurd (omega arith)
+  pub read-inv : readElement leaves t ≡ got e [] → IsRead
+  unfolding readElement ended uncounted
+  read-inv q =
+      by-test (ltb 4096 (length t))
+      (λ b. let h : refuse 2 ≡ got e [] = rw b at q in let z : _≡_ {A = ℕ} 0 1 = cc in absurd (omega arith))
+      (λ b. go (elem leaves 8 0 t) refl (ltb-false 4096 (length t) b) (rw b at q))
+    where
+      go : (o : Read (Counted (Elem Leaf))) → elem leaves 8 0 t ≡ o → length t ≤ 4096 → ended (uncounted o) ≡ got e [] → IsRead
+      go (refuse r) f l h = let z : _≡_ {A = ℕ} 0 1 = cc in absurd (omega arith)
+      go (got (counted e′ k) []) f l h =
+          let same : e′ ≡ e = cc in
+          record { after = k; small = l; reads = f ∙ ap (λ (v : Elem Leaf). got (counted v k) []) same }
+      go (got (counted e′ k) (x ∷ s)) f l h = let z : _≡_ {A = ℕ} 0 1 = cc in absurd (omega arith)
 
-pub read-of : (t : List ℕ) (e : Elem Leaf) (k : ℕ) → length t ≤ 4096 → elem leafHead 8 0 t ≡ got (counted e k) [] → readElement leafHead t ≡ got e []
-unfolding readElement ended uncounted
-read-of t e k l q = rw (le-ltb 4096 (length t) l, q)
+  pub read-of : (k : ℕ) → length t ≤ 4096 → elem leaves 8 0 t ≡ got (counted e k) [] → readElement leaves t ≡ got e []
+  unfolding readElement ended uncounted
+  read-of k l q = rw (le-ltb 4096 (length t) l, q)
 
 pub accepted-facts : (t : List ℕ) (e : Elem Leaf) → readElement leafHead t ≡ got e [] → Good e × (0 < leaves e) × (leaves e ≤ 64)
 accepted-facts t e q =
-    let r = read-inv t e q in
+    let r = read-inv leafHead t e q in
     let f = elem-facts 8 0 t e (r .after) [] (r .reads) in
     (f .good, f .some, omega (arith, f .count, f .few))
+
+-- what is read with a type is read the same without, and lies inside; and back
+module _ (lo hi : ℤ) (t : List ℕ) (e : Elem Leaf) where
+  pub untyped-read : readElement (typedHead lo hi) t ≡ got e [] → (readElement leafHead t ≡ got e []) × Inside lo hi e
+  untyped-read q =
+      let r = read-inv (typedHead lo hi) t e q in
+      let u = untyped lo hi 8 0 t e (r .after) [] (r .reads) in
+      (read-of leafHead t e (r .after) (r .small) (u .0), u .1)
+
+  pub typed-read : readElement leafHead t ≡ got e [] → Inside lo hi e → readElement (typedHead lo hi) t ≡ got e []
+  typed-read q i =
+      let r = read-inv leafHead t e q in
+      read-of (typedHead lo hi) t e (r .after) (r .small) (typed lo hi 8 0 t e (r .after) [] (r .reads) i)
+
+  pub typed-facts : readElement (typedHead lo hi) t ≡ got e [] → Good e × (0 < leaves e) × (leaves e ≤ 64)
+  typed-facts q = accepted-facts t e (untyped-read q .0)

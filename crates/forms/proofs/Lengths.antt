@@ -4,8 +4,9 @@ use mathlib.Core.Bool.{Bool, true, false}
 use mathlib.Core.List.{List, [], _∷_}
 use Prim.Native.Nat.{ℕ, suc, _+_, _*_, _≤_}
 use native.Mathlib.Omega.{arith}
+use lib.IntN.{ℤ}
 use lib.ListN.{length, length-append}
-use Rattle.ranges.specs.Spans.{Span, span, least, holds, gaps}
+use Rattle.ranges.specs.Spans.{Span, span, holds, gaps, cutTo}
 use Rattle.grammar.specs.Record.{outside}
 use Rattle.integers.specs.Integer.{intBytes, eqZ}
 use Rattle.facts.proofs.Cases.{by-test}
@@ -38,9 +39,9 @@ pub length-sideForm : (outside : Bool) (rs : List Span) → length (sideForm out
 length-sideForm true rs = length-unmatchedForm rs
 length-sideForm false rs = length-matchedForm rs
 
-pub length-form : (rs : List Span) → length (form rs) ≡ formLength rs
+pub length-form : (lo hi : ℤ) (rs : List Span) → length (form lo hi rs) ≡ formLength lo hi rs
 unfolding form formLength
-length-form rs = by-test (holds rs least) (λ e. rw e (length-unmatchedForm (gaps rs))) (λ e. rw e (length-matchedForm rs))
+length-form lo hi rs = by-test (holds rs lo) (λ e. rw e (length-unmatchedForm (cutTo lo hi (gaps rs)))) (λ e. rw e (length-matchedForm (cutTo lo hi rs)))
 
 pub recordLength-most : (r : Span) → recordLength r ≤ 9
 recordLength-most (span a b) = by-test (eqZ a b) (λ e. rw e (omega arith)) (λ e. rw e (omega arith))

@@ -1,4 +1,5 @@
--- The bytes of a form read as an element template that matches what the ranges hold, and has a leaf for each. Assumes nothing.
+-- The bytes of a form read as an element template that matches what the ranges hold, has a leaf for each, and lies inside a type that
+-- they lie in. Assumes nothing.
 use mathlib.Core.Path.{_≡_, refl, sym, ap, ap₂, _∙_}
 use mathlib.Core.Bool.{Bool, true, false, not, cond, _&&_, _||_, or-false}
 use mathlib.Core.List.{List, [], _∷_, _++_, append-assoc, append-nil}
@@ -12,12 +13,14 @@ use lib.Seq.{drop-drop, drop-at}
 use borrow.Author.Tests.{le-ltb, eqb-true, ne-eqb}
 use Rattle.ranges.specs.Spans.{Span, span, inSpan, holds, Proper}
 use Rattle.ranges.proofs.JoinsAndGaps.{to-rank}
+use Rattle.ranges.proofs.Cuts.{Among}
 use Rattle.grammar.specs.Element.{Elem, leaf, oneOf, noneOf, Elems, none, more, leaves, leavesAll}
-use Rattle.grammar.specs.Leaf.{Leaf, single, range, any, singleHead, rangeHead, leafHead}
+use Rattle.grammar.specs.Leaf.{Leaf, single, range, any, singleHead, rangeHead, leafHead, reaches}
 use Rattle.grammar.specs.Read.{got}
 use Rattle.grammar.specs.Reading.{counted, putFirst, thenMore, many, closed, opened, elem}
 use Rattle.grammar.specs.Record.{countFault, leafHere, group, groupHead, head}
 use Rattle.grammar.proofs.ReadApart.{grouped}
+use Rattle.grammar.proofs.TypedReading.{Every, Inside, InsideAll}
 use Rattle.grammar.specs.Matches.{matchesBy, leafMatches, matches, anyMatches}
 use Rattle.integers.specs.Integer.{Word, signed, intAt, bits, intBytes, eqZ}
 use Rattle.integers.specs.Rank.{rank}
@@ -76,6 +79,34 @@ unfolding matchesBy leafMatches
 unmatched-matches [] x p w = refl
 unmatched-matches (span a b ∷ rs) x p w = ap not (leavesOf-matches (span a b ∷ rs) x p w)
 
+-- its leaves lie inside a type that the ranges lie in
+
+leafOf-inside : (lo hi a b : ℤ) → Word a → Word b → ltZ a lo ≡ false → ltZ hi b ≡ false → reaches lo hi (leafOf (span a b)) ≡ false
+unfolding reaches
+leafOf-inside lo hi a b p q l u =
+    by-test (eqZ a b)
+    (λ e.
+    let same : a ≡ b = eqZ-same a b p q e in
+    let u₁ : ltZ hi a ≡ false = ap (ltZ hi) same ∙ u in
+    rw (e, l, u₁))
+    (λ e. rw (e, l, u))
+
+leavesOf-inside : (lo hi : ℤ) (rs : List Span) → Proper rs → Among lo hi rs → InsideAll lo hi (leavesOf rs)
+unfolding Every
+leavesOf-inside lo hi [] p m = tt
+leavesOf-inside lo hi (span a b ∷ rs) p m = (leafOf-inside lo hi a b (p .0) (p .1) (m .0) (m .1), leavesOf-inside lo hi rs (p .3) (m .2))
+
+pub matched-inside : (lo hi : ℤ) (rs : List Span) → Proper rs → Among lo hi rs → Inside lo hi (matchedElem rs)
+unfolding Every reaches
+matched-inside lo hi [] p m = (refl, tt)
+matched-inside lo hi (span a b ∷ []) p m = leafOf-inside lo hi a b (p .0) (p .1) (m .0) (m .1)
+matched-inside lo hi (span a b ∷ r ∷ rs) p m = leavesOf-inside lo hi (span a b ∷ r ∷ rs) p m
+
+pub unmatched-inside : (lo hi : ℤ) (rs : List Span) → Proper rs → Among lo hi rs → Inside lo hi (unmatchedElem rs)
+unfolding Every reaches
+unmatched-inside lo hi [] p m = refl
+unmatched-inside lo hi (span a b ∷ rs) p m = leavesOf-inside lo hi (span a b ∷ rs) p m
+
 -- how many leaves it has
 
 leavesOf-count : (rs : List Span) → leavesAll (leavesOf rs) ≡ length rs
@@ -125,7 +156,7 @@ head-range a b s p q o =
     let some : eqb (length (0x02 ∷ (intBytes a ++ (intBytes b ++ s)))) 0 ≡ false = ne-eqb (length (0x02 ∷ (intBytes a ++ (intBytes b ++ s)))) 0 (λ z. omega arith) in
     rw (some, e, d, first-int 2 a (intBytes b ++ s) p, second-int 2 a b s q, o)
 
-not-after : (a b : ℤ) → Word a → Word b → a ≤ℤ b → ltZ b a ≡ false
+pub not-after : (a b : ℤ) → Word a → Word b → a ≤ℤ b → ltZ b a ≡ false
 not-after a b p q h = rank-ltZ b a q p ∙ le-ltb (rank b) (rank a) (to-rank a b (low a p) (low b q) h)
 
 head-record : (a b : ℤ) (s : List ℕ) → Word a → Word b → a ≤ℤ b → head leafHead (recordOf (span a b) ++ s) ≡ leafHere (leafOf (span a b)) s

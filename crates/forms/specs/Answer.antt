@@ -1,16 +1,18 @@
 -- What the normaliser gives back (docs/RULES.md, "Numbers given back").
 -- Answer          == a number, a length, and the room as it is afterwards
 -- placed f room   == the form f written to the room: 12 where the room is shorter, else 0
--- answerTo o room == the answer to an input that reads as o
--- normalised t room == the answer to the template bytes t and the room
+-- answerTo lo hi o room == the answer to an input that reads as o, with elements of the type from lo to hi
+-- normalised lo hi t room == the answer to the template bytes t, the bounds lo and hi of the type, and the room
 -- Assumes nothing: these are definitions.
 use Prim.Native.Nat.{ℕ}
 use mathlib.Core.List.{List, _++_}
 use mathlib.Core.Bool.{cond}
 use lib.Dec.{ltb}
+use lib.IntN.{ℤ}
 use lib.ListN.{length, drop}
+use lib.Signed.{ltZ}
 use Rattle.grammar.specs.Element.{Elem}
-use Rattle.grammar.specs.Leaf.{Leaf, leafHead}
+use Rattle.grammar.specs.Leaf.{Leaf, typedHead}
 use Rattle.grammar.specs.Read.{Read, refuse, got}
 use Rattle.grammar.specs.Reading.{readElement}
 use Rattle.forms.specs.Form.{normalForm}
@@ -25,9 +27,13 @@ placed f room =
     (answer 0 (length f) (f ++ drop (length f) room))
 
 -- "its 12 comes last, after 10"
-unfoldable pub answerTo : Read (Elem Leaf) → List ℕ → Answer
-answerTo (refuse r) room = answer r 0 room
-answerTo (got e rest) room = placed (normalForm e) room
+unfoldable pub answerTo : ℤ → ℤ → Read (Elem Leaf) → List ℕ → Answer
+answerTo lo hi (refuse r) room = answer r 0 room
+answerTo lo hi (got e rest) room = placed (normalForm lo hi e) room
 
-unfoldable pub normalised : List ℕ → List ℕ → Answer
-normalised t room = answerTo (readElement leafHead t) room
+-- "6 for reversed bounds, also in the normaliser, after 2": before the first byte is read
+unfoldable pub normalised : ℤ → ℤ → List ℕ → List ℕ → Answer
+normalised lo hi t room =
+    cond (ltb 4096 (length t)) (answer 2 0 room)
+    (cond (ltZ hi lo) (answer 6 0 room)
+    (answerTo lo hi (readElement (typedHead lo hi) t) room))

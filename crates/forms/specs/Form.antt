@@ -1,22 +1,23 @@
 -- The bytes of a normal form (docs/RULES.md, "The normal form").
 -- recordOf r       == the record of a range: 01 for one integer, 02 for any other
 -- records rs       == the records of rs, one after the other
--- matchedForm rs   == the form of a set that does not hold the least integer, from the maximal ranges of the integers matched
--- unmatchedForm rs == the form of a set that holds the least integer, from the maximal ranges of the integers not matched
+-- matchedForm rs   == the form of a set that does not hold the lower bound of the type, from the maximal ranges of the integers matched
+-- unmatchedForm rs == the form of a set that holds the lower bound of the type, from the maximal ranges of the integers not matched
 -- sideForm outside rs == the one or the other: from the integers not matched, or from those matched
--- form rs          == the form of the set whose maximal ranges are rs
--- normalForm e     == the normal form of the element template e
--- recordLength r, recordsLength rs, matchedLength rs, unmatchedLength rs, sideLength outside rs, formLength rs ==
+-- form lo hi rs    == the form of what the set whose maximal ranges are rs holds of the type from lo to hi
+-- normalForm lo hi e == the normal form of the element template e, whose elements are of the type from lo to hi
+-- recordLength r, recordsLength rs, matchedLength rs, unmatchedLength rs, sideLength outside rs, formLength lo hi rs ==
 --                     how many bytes each has
 -- Assumes nothing: these are definitions.
 use Prim.Native.Nat.{ℕ, _+_}
 use mathlib.Core.List.{List, [], _∷_, _++_}
 use mathlib.Core.Bool.{Bool, true, false, cond}
+use lib.IntN.{ℤ}
 use lib.ListN.{length}
 use Rattle.integers.specs.Integer.{intBytes, eqZ}
 use Rattle.grammar.specs.Element.{Elem}
 use Rattle.grammar.specs.Leaf.{Leaf}
-use Rattle.ranges.specs.Spans.{Span, span, least, holds, gaps}
+use Rattle.ranges.specs.Spans.{Span, span, holds, gaps, cutTo}
 use Rattle.forms.specs.Matched.{rangesOf}
 
 -- "A range of one integer is written as 01, any other as 02."
@@ -42,11 +43,12 @@ abbrev pub sideForm : Bool → List Span → List ℕ
 sideForm true rs = unmatchedForm rs
 sideForm false rs = matchedForm rs
 
-unfoldable pub form : List Span → List ℕ
-form rs = cond (holds rs least) (unmatchedForm (gaps rs)) (matchedForm rs)
+-- "its least integer is then the lower bound and everything means the whole type"
+unfoldable pub form : ℤ → ℤ → List Span → List ℕ
+form lo hi rs = cond (holds rs lo) (unmatchedForm (cutTo lo hi (gaps rs))) (matchedForm (cutTo lo hi rs))
 
-unfoldable pub normalForm : Elem Leaf → List ℕ
-normalForm e = form (rangesOf e)
+unfoldable pub normalForm : ℤ → ℤ → Elem Leaf → List ℕ
+normalForm lo hi e = form lo hi (rangesOf e)
 
 -- "The length is 1 for everything, 3 for nothing, otherwise 5 for each single plus 9 for each wider range, and 2 for a 04 or 05."
 abbrev pub recordLength : Span → ℕ
@@ -69,5 +71,5 @@ abbrev pub sideLength : Bool → List Span → ℕ
 sideLength true rs = unmatchedLength rs
 sideLength false rs = matchedLength rs
 
-unfoldable pub formLength : List Span → ℕ
-formLength rs = cond (holds rs least) (unmatchedLength (gaps rs)) (matchedLength rs)
+unfoldable pub formLength : ℤ → ℤ → List Span → ℕ
+formLength lo hi rs = cond (holds rs lo) (unmatchedLength (cutTo lo hi (gaps rs))) (matchedLength (cutTo lo hi rs))

@@ -7,11 +7,11 @@ use native.Mathlib.Omega.{arith}
 use lib.IntN.{ℤ, pos, _+ℤ_, _-ℤ_}
 use lib.Signed.{ltZ}
 use lib.ListN.{length, getD, drop, set, length-set}
-use Rattle.integers.specs.Integer.{Word}
+use Rattle.integers.specs.Integer.{Word, least, greatest}
 use Rattle.integers.specs.Rank.{rank}
 use Rattle.integers.proofs.Ranks.{low, rank-next}
 use Rattle.ranges.specs.Shown.{view}
-use Rattle.ranges.specs.Spans.{Span, span, least, greatest, Ascending, gapsFrom, gaps}
+use Rattle.ranges.specs.Spans.{Span, span, Ascending, gapsFrom, gaps}
 use Rattle.ranges.proofs.JoinsAndGaps.{ranks, to-ranked}
 use Rattle.ranges.proofs.Steps.{gaps-before, gaps-none, gaps-last, gaps-end}
 use Rattle.ranges.proofs.Views.{view-end, view-at, view-push, view-later}

@@ -10,11 +10,11 @@ use lib.IntN.{ℤ, pos, negsuc, _+ℤ_, _-ℤ_}
 use lib.ListN.{length, drop}
 use lib.Signed.{ltZ, leZ, _≤ℤ_}
 use borrow.Author.Tests.{ltb-true, ltb-false, leb-true, le-leb}
-use Rattle.integers.specs.Integer.{Word}
+use Rattle.integers.specs.Integer.{Word, least, greatest}
 use Rattle.integers.specs.Rank.{rank, Low}
 use Rattle.facts.proofs.Cases.{by-test}
 use Rattle.integers.proofs.Ranks.{low, rank-word, rank-inj, rank-next, rank-prev, word-next, word-prev, low-ltZ, low-leZ, word-of}
-use Rattle.ranges.specs.Spans.{Span, span, least, greatest, inSpan, holds, From, Ascending, Proper, lesser, larger, join, joinAll, gapsFrom, gaps, edges}
+use Rattle.ranges.specs.Spans.{Span, span, inSpan, holds, From, Ascending, Proper, lesser, larger, join, joinAll, gapsFrom, gaps, edges}
 use Rattle.ranges.proofs.Ranked as ranked
 use Rattle.ranges.proofs.Ranked.{Range, range, within}
 
@@ -31,7 +31,7 @@ Words (span a b ∷ rs) = Word a × Word b × Words rs
 never : {r : Range} {rs : List Range} → r ∷ rs ≡ [] → ⊥
 never {r} {rs} e = let z : _≡_ {A = ℕ} 0 1 = cc in omega arith
 
-ranks-inj : (rs ss : List Span) → Words rs → Words ss → ranks rs ≡ ranks ss → rs ≡ ss
+pub ranks-inj : (rs ss : List Span) → Words rs → Words ss → ranks rs ≡ ranks ss → rs ≡ ss
 ranks-inj [] [] p q e = refl
 ranks-inj [] (span c d ∷ ss) p q e = absurd (never (sym e))
 ranks-inj (span a b ∷ rs) [] p q e = absurd (never e)
@@ -49,11 +49,11 @@ holds-ranks [] x p q = refl
 holds-ranks (span a b ∷ rs) x p q =
     rw (low-leZ a x (low a (p .0)) (low x q), low-leZ x b (low x q) (low b (p .1)), holds-ranks rs x (p .2) q)
 
-length-ranks : (rs : List Span) → length (ranks rs) ≡ length rs
+pub length-ranks : (rs : List Span) → length (ranks rs) ≡ length rs
 length-ranks [] = refl
 length-ranks (span a b ∷ rs) = ap suc (length-ranks rs)
 
-edges-ranks : (rs : List Span) → ranked.edges (ranks rs) ≡ edges rs
+pub edges-ranks : (rs : List Span) → ranked.edges (ranks rs) ≡ edges rs
 edges-ranks [] = refl
 edges-ranks (span a b ∷ rs) = ap (λ (n : ℕ). min (rank a) 1 + (min (4294967295 - rank b) 1 + n)) (edges-ranks rs)
 
@@ -74,7 +74,7 @@ two-on b p =
 least-low : Low least
 least-low = omega arith
 
-true-of : (b : Bool) → T b → b ≡ true
+pub true-of : (b : Bool) → T b → b ≡ true
 true-of true h = refl
 true-of false h = absurd h
 
@@ -84,7 +84,7 @@ to-rank x y p q h = leb-true (rank x) (rank y) (sym (low-leZ x y p q) ∙ true-o
 pub of-rank : (x y : ℤ) → Low x → Low y → rank x ≤ rank y → x ≤ℤ y
 of-rank x y p q h = record { le = subst T (sym (low-leZ x y p q ∙ le-leb (rank x) (rank y) h)) tt }
 
-low-up : (m a : ℤ) → Low m → m ≤ℤ a → Low a
+pub low-up : (m a : ℤ) → Low m → m ≤ℤ a → Low a
 low-up m (pos a) p h = tt
 low-up (pos m) (negsuc a) p h = absurd (h .le)
 low-up (negsuc m) (negsuc a) p h = omega (arith, leb→le a m (h .le))
@@ -300,12 +300,6 @@ module _ (rs : List Span) (f : Ascending rs) where
   pub length-edges : 2 * length rs ≤ edges rs + 2
   length-edges = omega (arith, ranked.length-edges-all 0 (ranks rs) (to-ranked rs f), length-ranks rs, edges-ranks rs)
 
-  -- ranges that leave out the least are fewer
-  pub length-edges-above : holds rs least ≡ false → 2 * length rs ≤ edges rs + 1
-  length-edges-above e =
-      let above = ranked.from-above (ranks rs) (to-ranked rs f) (sym (holds-ranks rs least (words-of rs f) (omega arith)) ∙ e) in
-      omega (arith, ranked.length-edges 1 (ranks rs) (omega arith) above, length-ranks rs, edges-ranks rs)
-
 -- ---- a set has one list
 
 -- the integer at a rank
@@ -330,7 +324,7 @@ unique rs ss f g e =
 
 -- ---- a range among ascending ones cannot be widened
 
-ranks-drop : (k : ℕ) (rs : List Span) → ranks (drop k rs) ≡ drop k (ranks rs)
+pub ranks-drop : (k : ℕ) (rs : List Span) → ranks (drop k rs) ≡ drop k (ranks rs)
 ranks-drop zero rs = refl
 ranks-drop (suc k) [] = refl
 ranks-drop (suc k) (span a b ∷ rs) = ranks-drop k rs

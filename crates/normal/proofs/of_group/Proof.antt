@@ -6,11 +6,15 @@ use native.Mathlib.Omega.{arith}
 use lib.IntN.{ℤ}
 use lib.ListN.{length}
 use borrow.Author.Needs.{needs}
+use Rattle.grammar.specs.Leaf.{leafHead}
+use Rattle.grammar.specs.Read.{got}
+use Rattle.grammar.specs.Reading.{readElement}
+use Rattle.integers.proofs.SignedLocals.{again-same}
 use Rattle.ranges.specs.Shown.{view}
 use Rattle.ranges.specs.Spans.{Span, Ascending, Proper, joinAll}
 use Rattle.ranges.proofs.JoinsAndGaps.{ascending-joined}
 use Rattle.normal.specs.Contract.{rangesIn}
-use Rattle.normal.proofs.Answers.{whole-from, whole-few, whole-joined, answer-form}
+use Rattle.normal.proofs.Answers.{accepted-plain, whole-from, whole-few, whole-joined, answer-form}
 use Rattle.normal.proofs.of_group.Statement.{statement}
 use Rattle.normal.proofs.of_group.Tie as tie
 
@@ -20,10 +24,14 @@ slice-aggregate-set-of c = search needs
 slice-aggregate-set-of-2 : tie.Need-slice-aggregate-set-of-2
 slice-aggregate-set-of-2 c = search needs
 
+-- without a type the bytes are read the same
+plain : (s : tie.Start) → readElement leafHead (s .args .template .now) ≡ got (s .pre .0 .what) []
+plain s = accepted-plain _ _ _ (s .pre .0)
+
 set-of-requires : tie.Need-set-of-requires
 set-of-requires c κs =
     let s = c .before .before .before .before in
-    whole-from _ _ (s .pre .0 .reads) _ _ refl refl (s .pre .1)
+    whole-from _ _ (plain s) _ _ refl refl (s .pre .1)
 
 slice-aggregate-swept : tie.Need-slice-aggregate-swept
 slice-aggregate-swept c = search needs
@@ -49,7 +57,7 @@ module _ (c : tie.After-set-of) where
   long-high = c .set-of .ensures .more .sizeHigh
 
   few : rangesIn (c .set-of .result) ≤ 128
-  few = whole-few _ _ (s .pre .0 .reads) _ _ _ _ _ (c .set-of .ensures)
+  few = whole-few _ _ (plain s) _ _ _ _ _ (c .set-of .ensures)
 
   gathered : Proper (view (rangesIn (c .set-of .result)) los his)
   gathered = subst Proper (sym (c .set-of .ensures .more .ranges)) (c .set-of .ensures .proper)
@@ -84,10 +92,11 @@ returns c =
     let g = c .before .before .before .before in
     let j = g .before .before .before .before .before .before in
     let w = j .before .before .before .before .before in
-    let e = s w .pre .0 .reads in
-    g .give-set .ensures
-    ∙ answer-form _ _ e (s w .args .room .now) _
-    (j .swept .ensures .1 .ranges ∙ ap (λ (rs : List Span). joinAll rs []) (w .set-of .ensures .more .ranges) ∙ whole-joined _ _ e _ _ _ _ _ (w .set-of .ensures))
+    let lo = s w .args .lower in
+    let hi = s w .args .upper in
+    rw (again-same lo (s w .fits .lower .sfits), again-same hi (s w .fits .upper .sfits)) at (g .give-set .ensures)
+    ∙ answer-form lo hi _ (s w .args .room .now) (s w .pre .0) _
+    (j .swept .ensures .1 .ranges ∙ ap (λ (rs : List Span). joinAll rs []) (w .set-of .ensures .more .ranges) ∙ whole-joined _ _ (plain (s w)) _ _ _ _ _ (w .set-of .ensures))
 
 pub of-group-spec : {M : Type 1} → statement M
 of-group-spec =

@@ -1,5 +1,5 @@
 -- `normal::of_leaf` meets its contract: the set of a leaf is the one range between its bounds. Assumes nothing.
-use mathlib.Core.Path.{refl, _∙_}
+use mathlib.Core.Path.{_≡_, refl, _∙_}
 use mathlib.Core.List.{[], _∷_}
 use native.Mathlib.Omega.{arith}
 use lib.IntN.{ℤ}
@@ -7,16 +7,23 @@ use borrow.Author.Needs.{needs}
 use Rattle.integers.specs.Integer.{Word}
 use Rattle.integers.proofs.SignedLocals.{again, again-same}
 use Rattle.ranges.specs.Spans.{span, holds, Ascending}
+use Rattle.grammar.specs.Leaf.{leafHead}
+use Rattle.grammar.specs.Read.{got}
+use Rattle.grammar.specs.Reading.{readElement}
 use Rattle.leaves.specs.Leaves.{LeafHere}
 use Rattle.normal.specs.Contract.{weight, HereSet}
 use Rattle.normal.proofs.Walks.{leaf-there, leaf-here-set}
-use Rattle.normal.proofs.Answers.{whole-here, whole-set, answer-form}
+use Rattle.normal.proofs.Answers.{accepted-plain, whole-here, whole-set, answer-form}
 use Rattle.normal.proofs.of_leaf.Statement.{statement}
 use Rattle.normal.proofs.of_leaf.Tie as tie
 
+-- without a type the bytes are read the same
+plain : (s : tie.Start) → readElement leafHead (s .args .template .now) ≡ got (s .pre .0 .what) []
+plain s = accepted-plain _ _ _ (s .pre .0)
+
 -- the bytes are a leaf
 there : (s : tie.Start) → LeafHere (s .args .template .now) 0
-there s = leaf-there _ 0 8 (whole-here _ _ (s .pre .0 .reads)) (s .pre .1)
+there s = leaf-there _ 0 8 (whole-here _ _ (plain s)) (s .pre .1)
 
 bounds-at-requires : tie.Need-bounds-at-requires
 bounds-at-requires c κs = there (c .before .before)
@@ -58,9 +65,11 @@ returns : tie.Need-returns
 returns c =
     let g = c .before .before .before .before in
     let l = g .before .before .before .before .before .before in
-    let e = s l .pre .0 in
     let f = found l in
-    g .give-set .ensures ∙ answer-form _ _ (e .reads) (s l .args .room .now) _ (whole-set _ _ (e .reads) _ _ _ (f .0) (f .1))
+    let lo = s l .args .lower in
+    let hi = s l .args .upper in
+    rw (again-same lo (s l .fits .lower .sfits), again-same hi (s l .fits .upper .sfits)) at (g .give-set .ensures)
+    ∙ answer-form lo hi _ (s l .args .room .now) (s l .pre .0) _ (whole-set _ _ (plain (s l)) _ _ _ (f .0) (f .1))
 
 pub of-leaf-spec : {M : Type 1} → statement M
 of-leaf-spec =
