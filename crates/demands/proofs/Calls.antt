@@ -3,6 +3,7 @@
 use mathlib.Core.Path.{_≡_, refl, sym}
 use mathlib.Core.List.{List, []}
 use Prim.Native.Nat.{ℕ}
+use lib.IntN.{ℤ}
 use denote.Ref.{RefT}
 use Rattle.format.specs.declared.Family.{Family}
 use Rattle.grammar.specs.Family.{ElementOf}
@@ -18,9 +19,9 @@ pub judge-answer : (fam : Family) (t : List ℕ) (xs : List (ElementOf fam)) (w 
 judge-answer Family.Integers t xs w r c = let p = c .allowed in let a = c .bytes in let b = c .list in let d = c .offered in cc
 judge-answer Family.Floats t xs w r c = let p = c .allowed in let a = c .bytes in let b = c .list in let d = c .offered in cc
 
-pub normal-answer : (t room : List ℕ) (n l : ℕ) (after : List ℕ) → NormalCall t room n l after → normalised t room ≡ answer n l after
-normal-answer t room n l after c =
-    let p = c .allowed in let a = c .bytes in let b = c .roomThen in let d = c .number in let e = c .size in let f = c .roomNow in cc
+pub normal-answer : (t : List ℕ) (lo hi : ℤ) (room : List ℕ) (n l : ℕ) (after : List ℕ) → NormalCall t lo hi room n l after → normalised lo hi t room ≡ answer n l after
+normal-answer t lo hi room n l after c =
+    let p = c .allowed in let a = c .bytes in let g = c .lower in let h = c .upper in let b = c .roomThen in let d = c .number in let e = c .size in let f = c .roomNow in cc
 
 -- ---- every input can be lent, and the contract allows an answer
 
@@ -80,21 +81,23 @@ judge-lent Family.Floats t xs w = record {
 pub judge-called : (fam : Family) (t : List ℕ) (xs : List (ElementOf fam)) (w : List ℕ) → (r : ℕ) × JudgeCall fam t xs w r
 judge-called fam t xs w = (judgeAnswer fam t xs w, judge-lent fam t xs w)
 
-pub normal-called : (t room : List ℕ) → (n : ℕ) × (l : ℕ) × (after : List ℕ) × NormalCall t room n l after
+pub normal-called : (t : List ℕ) (lo hi : ℤ) (room : List ℕ) → (n : ℕ) × (l : ℕ) × (after : List ℕ) × NormalCall t lo hi room n l after
 unfolding ref
-normal-called t room = go (normalised t room) refl
+normal-called t lo hi room = go (normalised lo hi t room) refl
   where
-    go : (a : Answer) → normalised t room ≡ a → (n : ℕ) × (l : ℕ) × (after : List ℕ) × NormalCall t room n l after
+    go : (a : Answer) → normalised lo hi t room ≡ a → (n : ℕ) × (l : ℕ) × (after : List ℕ) × NormalCall t lo hi room n l after
     go (answer n l after) e = (
       n,
       l,
       after,
       record {
         κs = ([], ([], tt));
-        lent = (ref t, (ref room, tt));
+        lent = (ref t, (lo, (hi, (ref room, tt))));
         result = record { number = n; length = l };
-        left = (ref t, (ref after, tt));
+        left = (ref t, (lo, (hi, (ref after, tt))));
         bytes = refl;
+        lower = refl;
+        upper = refl;
         roomThen = refl;
         number = refl;
         size = refl;

@@ -1,141 +1,188 @@
--- Laws of normal forms. What carries them: the ranges of an element template hold what it matches (`Sets` of `forms`), a set has one
--- list of ascending ranges, and the bytes of a form read as an element template of these ranges (`Readings` of `forms`). Assumes nothing.
+-- Laws of normal forms, of elements of the type from lo to hi. What carries them: the ranges of an element template hold what it matches (`Sets` of `forms`),
+-- a set has one list of ascending ranges, cut to the type too, and the bytes of a form read as an element template of these ranges (`Readings` of `forms`).
+-- Assumes nothing.
 use mathlib.Core.Path.{_≡_, sym, ap, _∙_, subst}
-use mathlib.Core.Bool.{true, false, not, Bool·not-not}
+use mathlib.Core.Bool.{true, false, not, _&&_, Bool·not-not}
 use mathlib.Core.List.{List, _∷_, _++_}
 use Prim.Native.Nat.{ℕ, _*_, _≤_, _<_}
 use native.Mathlib.Omega.{arith}
 use lib.IntN.{ℤ, pos, _+ℤ_, _-ℤ_}
-use lib.Signed.{ltZ}
+use lib.Signed.{ltZ, leZ, _≤ℤ_, leZ-yes}
+use lib.Dec.{T}
 use lib.ListN.{length, drop}
 use borrow.Author.Tests.{le-ltb}
-use Rattle.ranges.specs.Spans.{Span, span, least, greatest, holds, gaps}
-use Rattle.ranges.proofs.JoinsAndGaps.{Words, words-of, proper-of, holds-gaps, words-drop, none-before, none-after}
+use Rattle.ranges.specs.Spans.{Span, span, holds, Ascending, gaps, cutTo}
+use Rattle.ranges.proofs.JoinsAndGaps.{Words, of-rank, words-of, proper-of, words-drop, holds-gaps}
+use Rattle.ranges.proofs.Cuts.{among-cut, words-cut, holds-cut, holds-in-type, ascending-cut, word-between, none-before-cut, none-after-cut}
+use Rattle.integers.specs.Integer.{Word}
+use Rattle.integers.proofs.Ranks.{low, rank-word, word-next, word-prev}
 use Rattle.integers.proofs.SignedLocals.{lt-rank}
 use Rattle.grammar.specs.Element.{Elem, leaves}
-use Rattle.grammar.specs.Leaf.{Leaf}
+use Rattle.grammar.specs.Leaf.{Leaf, leafHead, typedHead}
 use Rattle.grammar.specs.Matches.{matches}
-use Rattle.integers.specs.Integer.{Word}
-use Rattle.facts.proofs.Cases.{by-test}
-use Rattle.integers.proofs.Ranks.{word-next, word-prev}
+use Rattle.grammar.proofs.TypedReading.{Inside}
+use Rattle.facts.proofs.Cases.{by-test, and-left, and-right}
 use Rattle.forms.specs.Answer.{answer, placed, answerTo, normalised}
 use Rattle.demands.specs.NormalForms.{Accepted, SameIntegers}
 use Rattle.forms.specs.Form.{matchedForm, unmatchedForm, form, normalForm, formLength}
-use Rattle.forms.specs.Matched.{rangesOf}
-use Rattle.forms.proofs.Accepts.{Good, read-of, accepted-facts}
+use Rattle.forms.specs.Matched.{rangesOf, rangesIn}
+use Rattle.forms.proofs.Accepts.{Good, read-inv, read-of, typed-read, typed-facts}
 use Rattle.forms.proofs.Lengths.{length-matchedForm, length-unmatchedForm, length-form, matchedLength-most, unmatchedLength-most}
-use Rattle.forms.proofs.Readings.{matchedElem, unmatchedElem, matched-matches, unmatched-matches, matched-count, unmatched-count, ReadsAs, matched-reads, unmatched-reads}
-use Rattle.forms.proofs.Sets.{SetOf, gaps-set, elem-set, same-set, set-length-above}
+use Rattle.forms.proofs.Readings.{matchedElem, unmatchedElem, matched-matches, unmatched-matches, matched-inside, unmatched-inside, matched-count, unmatched-count, not-after, ReadsAs, matched-reads, unmatched-reads}
+use Rattle.forms.proofs.Sets.{SetOf, gaps-set, elem-set, same-cut, cut-length}
 
 -- ---- the two sides: a form is written from the ranges matched, or from those not matched
 
 -- the form of e, its element template, and what is known of the ranges that it is written from
-pub record Side (e : Elem Leaf) : Type 0 where
+pub record Side (lo hi : ℤ) (e : Elem Leaf) : Type 0 where
   pub what : Elem Leaf
-  pub reads : ReadsAs (normalForm e) what
-  pub same : (x : ℤ) → Word x → matches what x ≡ matches e x
+  pub reads : ReadsAs (normalForm lo hi e) what
+  pub inside : Inside lo hi what
+  pub same : SameIntegers lo hi what e
   pub count : leaves what ≤ leaves e
-  pub size : length (normalForm e) ≤ 578
+  pub size : length (normalForm lo hi e) ≤ 578
 
-module _ (e : Elem Leaf) (g : Good e) (some : 0 < leaves e) (most : leaves e ≤ 64) where
-  own : SetOf (rangesOf e) (matches e) (2 * leaves e)
-  own = elem-set e g
-
-  others : SetOf (gaps (rangesOf e)) (λ x. not (matches e x)) (2 * leaves e)
-  others = gaps-set (rangesOf e) (matches e) (2 * leaves e) own
-
-  matched-side : holds (rangesOf e) least ≡ false → Side e
-  unfolding normalForm form
-  matched-side h =
-      let rs = rangesOf e in
-      let n : length rs ≤ leaves e = set-length-above rs (matches e) (leaves e) own h in
-      let is : normalForm e ≡ matchedForm rs = rw h in
-      let proper = proper-of rs (own .ascending) in
-      record {
-        what = matchedElem rs;
-        reads = rw is (matched-reads rs (omega arith) proper);
-        same = λ x w. matched-matches rs x proper w ∙ own .right x w;
-        count = matched-count rs (leaves e) some n;
-        size = rw is (omega (arith, length-matchedForm rs, matchedLength-most rs (omega arith)));
-      }
-
-  unmatched-side : holds (rangesOf e) least ≡ true → Side e
-  unfolding normalForm form
-  unmatched-side h =
-      let rs = gaps (rangesOf e) in
-      let out : holds rs least ≡ false = holds-gaps (rangesOf e) (own .ascending) least (omega arith) ∙ ap not h in
-      let n : length rs ≤ leaves e = set-length-above rs (λ x. not (matches e x)) (leaves e) others out in
-      let is : normalForm e ≡ unmatchedForm rs = rw h in
-      let proper = proper-of rs (others .ascending) in
-      record {
-        what = unmatchedElem rs;
-        reads = rw is (unmatched-reads rs (omega arith) proper);
-        same = λ x w. unmatched-matches rs x proper w ∙ ap not (others .right x w) ∙ Bool·not-not (matches e x);
-        count = unmatched-count rs (leaves e) some n;
-        size = rw is (omega (arith, length-unmatchedForm rs, unmatchedLength-most rs (omega arith)));
-      }
-
-  side : Side e
-  side = by-test (holds (rangesOf e) least) unmatched-side matched-side
-
-pub side-of : (t : List ℕ) (e : Elem Leaf) → Accepted t e → Side e
-side-of t e a = let f = accepted-facts t e a in side e (f .0) (f .1) (f .2)
-
-pub accepted-side : (e : Elem Leaf) (s : Side e) → Accepted (normalForm e) (s .what)
-accepted-side e s = read-of (normalForm e) (s .what) (s .reads .count) (omega (arith, s .size)) (s .reads .reads)
-
--- ---- what a form is written from, and how long it is
-
--- the neighbours of a range are 32-bit integers where they exist
-pub widest-of : (e : Elem Leaf) (g : Good e) (k : ℕ) (a b : ℤ) (rs : List Span) → drop k (rangesOf e) ≡ span a b ∷ rs
-    → (ltZ least a ≡ true → matches e (a -ℤ pos 1) ≡ false) × (ltZ b greatest ≡ true → matches e (b +ℤ pos 1) ≡ false)
-widest-of e g k a b rs q =
-    let s = elem-set e g in
-    let w = subst Words q (words-drop k (rangesOf e) (words-of (rangesOf e) (s .ascending))) in (
-      λ h. sym (s .right (a -ℤ pos 1) (word-prev a (w .0) (lt-rank least a (omega arith) (w .0) h))) ∙ none-before (rangesOf e) (s .ascending) k a b rs q h,
-      λ h. sym (s .right (b +ℤ pos 1) (word-next b (w .1) (lt-rank b greatest (w .1) (omega arith) h))) ∙ none-after (rangesOf e) (s .ascending) k a b rs q h,
-    )
-
-pub length-normalForm : (e : Elem Leaf) → length (normalForm e) ≡ formLength (rangesOf e)
+pub length-normalForm : (lo hi : ℤ) (e : Elem Leaf) → length (normalForm lo hi e) ≡ formLength lo hi (rangesOf e)
 unfolding normalForm
-length-normalForm e = length-form (rangesOf e)
+length-normalForm lo hi e = length-form lo hi (rangesOf e)
 
--- ---- a form and the integers that it matches
+pub one-element : (lo hi : ℤ) (s : List ℕ) (e e′ : Elem Leaf) → Accepted lo hi s e → Accepted lo hi s e′ → e ≡ e′
+one-element lo hi s e e′ p q = cc
 
--- a room that is long enough gets the form
-pub form-placed : (t : List ℕ) (e : Elem Leaf) (room : List ℕ) → Accepted t e → length (normalForm e) ≤ length room
-    → normalised t room ≡ answer 0 (length (normalForm e)) (normalForm e ++ drop (length (normalForm e)) room)
-unfolding normalised answerTo placed
-form-placed t e room a h = rw (a, le-ltb (length room) (length (normalForm e)) h)
+pub accepted-side : (lo hi : ℤ) (e : Elem Leaf) (s : Side lo hi e) → Accepted lo hi (normalForm lo hi e) (s .what)
+accepted-side lo hi e s =
+    typed-read lo hi (normalForm lo hi e) (s .what)
+    (read-of leafHead (normalForm lo hi e) (s .what) (s .reads .count) (omega (arith, s .size)) (s .reads .reads)) (s .inside)
 
-pub one-element : (s : List ℕ) (e e′ : Elem Leaf) → Accepted s e → Accepted s e′ → e ≡ e′
-one-element s e e′ p q = cc
+module _ (lo hi : ℤ) (p : Word lo) (q : Word hi) (o : lo ≤ℤ hi) where
+  module _ (e : Elem Leaf) (g : Good e) where
+    own : SetOf (rangesOf e) (matches e) (2 * leaves e)
+    own = elem-set e g
 
-same-form : (e e′ : Elem Leaf) → Good e → Good e′ → SameIntegers e e′ → normalForm e ≡ normalForm e′
-unfolding normalForm
-same-form e e′ g g′ h = ap form (same-set (rangesOf e) (rangesOf e′) (matches e) (matches e′) (2 * leaves e) (2 * leaves e′) (elem-set e g) (elem-set e′ g′) h)
+    others : SetOf (gaps (rangesOf e)) (λ x. not (matches e x)) (2 * leaves e)
+    others = gaps-set (rangesOf e) (matches e) (2 * leaves e) own
 
-module _ (t : List ℕ) (e : Elem Leaf) (a : Accepted t e) where
-  module _ (t′ : List ℕ) (e′ : Elem Leaf) (a′ : Accepted t′ e′) where
-    pub same-integers-same-form : SameIntegers e e′ → normalForm e ≡ normalForm e′
-    same-integers-same-form = same-form e e′ (accepted-facts t e a .0) (accepted-facts t′ e′ a′ .0)
+    module _ (some : 0 < leaves e) (most : leaves e ≤ 64) where
+      matched-side : holds (rangesOf e) lo ≡ false → Side lo hi e
+      unfolding normalForm form
+      matched-side h =
+          let all = rangesOf e in
+          let rs = cutTo lo hi all in
+          let w = words-of all (own .ascending) in
+          let n : length rs ≤ leaves e = cut-length lo hi p q all (matches e) (leaves e) own h in
+          let is : normalForm lo hi e ≡ matchedForm rs = rw h in
+          let proper = proper-of rs (ascending-cut lo hi p q all o (own .ascending)) in
+          record {
+            what = matchedElem rs;
+            reads = rw is (matched-reads rs (omega arith) proper);
+            inside = matched-inside lo hi rs proper (among-cut lo hi p q all w);
+            same = λ x a b.
+                let v = word-between lo hi x p q a b in
+                matched-matches rs x proper v ∙ holds-in-type lo hi p q all x w a b ∙ own .right x v;
+            count = matched-count rs (leaves e) some n;
+            size = rw is (omega (arith, length-matchedForm rs, matchedLength-most rs (omega arith)));
+          }
 
-    pub same-form-same-integers : normalForm e ≡ normalForm e′ → SameIntegers e e′
-    same-form-same-integers h x w =
-        let s = side-of t e a in
-        let s′ = side-of t′ e′ a′ in
-        let back : s .what ≡ s′ .what = one-element (normalForm e) (s .what) (s′ .what) (accepted-side e s) (subst (λ (f : List ℕ). Accepted f (s′ .what)) (sym h) (accepted-side e′ s′)) in
-        sym (s .same x w) ∙ ap (λ (v : Elem Leaf). matches v x) back ∙ s′ .same x w
+      unmatched-side : holds (rangesOf e) lo ≡ true → Side lo hi e
+      unfolding normalForm form
+      unmatched-side h =
+          let all = gaps (rangesOf e) in
+          let rs = cutTo lo hi all in
+          let w = words-of all (others .ascending) in
+          let out : holds all lo ≡ false = holds-gaps (rangesOf e) (own .ascending) lo p ∙ ap not h in
+          let n : length rs ≤ leaves e = cut-length lo hi p q all (λ x. not (matches e x)) (leaves e) others out in
+          let is : normalForm lo hi e ≡ unmatchedForm rs = rw h in
+          let proper = proper-of rs (ascending-cut lo hi p q all o (others .ascending)) in
+          record {
+            what = unmatchedElem rs;
+            reads = rw is (unmatched-reads rs (omega arith) proper);
+            inside = unmatched-inside lo hi rs proper (among-cut lo hi p q all w);
+            same = λ x a b.
+                let v = word-between lo hi x p q a b in
+                unmatched-matches rs x proper v ∙ ap not (holds-in-type lo hi p q all x w a b ∙ others .right x v) ∙ Bool·not-not (matches e x);
+            count = unmatched-count rs (leaves e) some n;
+            size = rw is (omega (arith, length-unmatchedForm rs, unmatchedLength-most rs (omega arith)));
+          }
 
-  -- the form, read again
-  module _ (e′ : Elem Leaf) (a′ : Accepted (normalForm e) e′) where
-    back : side-of t e a .what ≡ e′
-    back = one-element (normalForm e) (side-of t e a .what) e′ (accepted-side e (side-of t e a)) a′
+      side : Side lo hi e
+      side = by-test (holds (rangesOf e) lo) unmatched-side matched-side
 
-    pub form-of-form : normalForm e′ ≡ normalForm e
-    form-of-form =
-        let s = side-of t e a in
-        same-form e′ e (accepted-facts (normalForm e) e′ a′ .0) (accepted-facts t e a .0) (λ x w. ap (λ (v : Elem Leaf). matches v x) (sym back) ∙ s .same x w)
+    -- ---- what a form is written from
 
-    pub leaves-of-form : leaves e′ ≤ leaves e
-    leaves-of-form = subst (λ (v : Elem Leaf). leaves v ≤ leaves e) back (side-of t e a .count)
+    pub ascending-in : Ascending (rangesIn lo hi e)
+    unfolding rangesIn
+    ascending-in = ascending-cut lo hi p q (rangesOf e) o (own .ascending)
+
+    pub inside-in : (x : ℤ) → Word x → holds (rangesIn lo hi e) x ≡ true → (lo ≤ℤ x) × (x ≤ℤ hi)
+    unfolding rangesIn
+    inside-in x v h =
+        let both = sym (holds-cut lo hi p q (rangesOf e) x (words-of (rangesOf e) (own .ascending)) v) ∙ h in
+        let here = and-left (leZ lo x && leZ x hi) (holds (rangesOf e) x) both in
+        (leZ-yes (subst T (sym (and-left (leZ lo x) (leZ x hi) here)) tt), leZ-yes (subst T (sym (and-right (leZ lo x) (leZ x hi) here)) tt))
+
+    pub right-in : (x : ℤ) → lo ≤ℤ x → x ≤ℤ hi → holds (rangesIn lo hi e) x ≡ matches e x
+    unfolding rangesIn
+    right-in x a b = holds-in-type lo hi p q (rangesOf e) x (words-of (rangesOf e) (own .ascending)) a b ∙ own .right x (word-between lo hi x p q a b)
+
+    -- the neighbours of a range are of the type where it goes on
+    pub widest-of : (k : ℕ) (a b : ℤ) (rs : List Span) → drop k (rangesIn lo hi e) ≡ span a b ∷ rs
+        → (ltZ lo a ≡ true → matches e (a -ℤ pos 1) ≡ false) × (ltZ b hi ≡ true → matches e (b +ℤ pos 1) ≡ false)
+    unfolding rangesIn
+    widest-of k a b rs d =
+        let f = own .ascending in
+        let w = subst Words d (words-drop k (cutTo lo hi (rangesOf e)) (words-cut lo hi p q (rangesOf e) (words-of (rangesOf e) f))) in (
+          λ h.
+              let lt = lt-rank lo a p (w .0) h in
+              sym (own .right (a -ℤ pos 1) (word-prev a (w .0) (omega arith))) ∙ none-before-cut lo hi p q (rangesOf e) o f k a b rs d h,
+          λ h.
+              let lt = lt-rank b hi (w .1) q h in
+              sym (own .right (b +ℤ pos 1) (word-next b (w .1) (omega (arith, rank-word hi q)))) ∙ none-after-cut lo hi p q (rangesOf e) o f k a b rs d h,
+        )
+
+  pub side-of : (t : List ℕ) (e : Elem Leaf) → Accepted lo hi t e → Side lo hi e
+  side-of t e a = let f = typed-facts lo hi t e a in side e (f .0) (f .1) (f .2)
+
+  -- ---- a form and the integers that it matches
+
+  -- a room that is long enough gets the form
+  pub form-placed : (t : List ℕ) (e : Elem Leaf) (room : List ℕ) → Accepted lo hi t e → length (normalForm lo hi e) ≤ length room
+      → normalised lo hi t room ≡ answer 0 (length (normalForm lo hi e)) (normalForm lo hi e ++ drop (length (normalForm lo hi e)) room)
+  unfolding normalised answerTo placed
+  form-placed t e room a h =
+      rw (le-ltb 4096 (length t) (read-inv (typedHead lo hi) t e a .small), not-after lo hi p q o, a, le-ltb (length room) (length (normalForm lo hi e)) h)
+
+  same-form : (e e′ : Elem Leaf) → Good e → Good e′ → SameIntegers lo hi e e′ → normalForm lo hi e ≡ normalForm lo hi e′
+  unfolding normalForm form
+  same-form e e′ g g′ h =
+      let here : lo ≤ℤ lo = of-rank lo lo (low lo p) (low lo p) (omega arith) in
+      let side-same : holds (rangesOf e) lo ≡ holds (rangesOf e′) lo = own e g .right lo p ∙ h lo here o ∙ sym (own e′ g′ .right lo p) in
+      let matched-same : cutTo lo hi (rangesOf e) ≡ cutTo lo hi (rangesOf e′) =
+      same-cut lo hi p q (rangesOf e) (rangesOf e′) (matches e) (matches e′) (2 * leaves e) (2 * leaves e′) o (own e g) (own e′ g′) h in
+      let unmatched-same : cutTo lo hi (gaps (rangesOf e)) ≡ cutTo lo hi (gaps (rangesOf e′)) =
+      same-cut lo hi p q (gaps (rangesOf e)) (gaps (rangesOf e′)) (λ x. not (matches e x)) (λ x. not (matches e′ x)) (2 * leaves e) (2 * leaves e′) o (others e g) (others e′ g′) (λ x a b. ap not (h x a b)) in
+      rw (side-same, matched-same, unmatched-same)
+
+  module _ (t : List ℕ) (e : Elem Leaf) (a : Accepted lo hi t e) where
+    module _ (t′ : List ℕ) (e′ : Elem Leaf) (a′ : Accepted lo hi t′ e′) where
+      pub same-integers-same-form : SameIntegers lo hi e e′ → normalForm lo hi e ≡ normalForm lo hi e′
+      same-integers-same-form = same-form e e′ (typed-facts lo hi t e a .0) (typed-facts lo hi t′ e′ a′ .0)
+
+      pub same-form-same-integers : normalForm lo hi e ≡ normalForm lo hi e′ → SameIntegers lo hi e e′
+      same-form-same-integers h x l u =
+          let s = side-of t e a in
+          let s′ = side-of t′ e′ a′ in
+          let back : s .what ≡ s′ .what = one-element lo hi (normalForm lo hi e) (s .what) (s′ .what) (accepted-side lo hi e s) (subst (λ (f : List ℕ). Accepted lo hi f (s′ .what)) (sym h) (accepted-side lo hi e′ s′)) in
+          sym (s .same x l u) ∙ ap (λ (v : Elem Leaf). matches v x) back ∙ s′ .same x l u
+
+    -- the form, read again
+    module _ (e′ : Elem Leaf) (a′ : Accepted lo hi (normalForm lo hi e) e′) where
+      back : side-of t e a .what ≡ e′
+      back = one-element lo hi (normalForm lo hi e) (side-of t e a .what) e′ (accepted-side lo hi e (side-of t e a)) a′
+
+      pub form-of-form : normalForm lo hi e′ ≡ normalForm lo hi e
+      form-of-form =
+          let s = side-of t e a in
+          same-form e′ e (typed-facts lo hi (normalForm lo hi e) e′ a′ .0) (typed-facts lo hi t e a .0) (λ x l u. ap (λ (v : Elem Leaf). matches v x) (sym back) ∙ s .same x l u)
+
+      pub leaves-of-form : leaves e′ ≤ leaves e
+      leaves-of-form = subst (λ (v : Elem Leaf). leaves v ≤ leaves e) back (side-of t e a .count)

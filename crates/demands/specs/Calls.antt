@@ -6,8 +6,8 @@
 -- JudgeIntegersCall, JudgeFloatsCall t xs w r <-> by its contract `judge`, or `judge_floats`, may give the number r for the template bytes t, the
 --             list xs and the offered witness w
 -- JudgeCall f t xs w r <-> this of the entry point for the family f
--- NormalCall t room n l after <-> by its contract `normalise` may give the number n and the length l and leave the room `after`, for the
---             template bytes t and the room
+-- NormalCall t lo hi room n l after <-> by its contract `normalise` may give the number n and the length l and leave the room `after`, for the
+--             template bytes t, the bounds lo and hi of the element type, and the room
 -- Assumes nothing: these are definitions.
 use mathlib.Core.Path.{_≡_}
 use mathlib.Core.List.{List}
@@ -76,14 +76,16 @@ abbrev pub JudgeCall : (f : Family) → List ℕ → List (ElementOf f) → List
 JudgeCall Family.Integers = JudgeIntegersCall
 JudgeCall Family.Floats = JudgeFloatsCall
 
-pub record NormalCall (t room : List ℕ) (n l : ℕ) (after : List ℕ) : Type 0 where
+pub record NormalCall (t : List ℕ) (lo hi : ℤ) (room : List ℕ) (n l : ℕ) (after : List ℕ) : Type 0 where
   pub κs : Lfts 2
   pub lent : Dens κs normalise-kinds.ps
   pub result : resT normalise-kinds.r κs .Denot
   pub left : AtExit (endedOf 2 normalise-kinds.ps normalise-kinds.r) κs
   pub bytes : lent .0 .now ≡ t
-  pub roomThen : lent .1 .0 .now ≡ room
+  pub lower : lent .1 .0 ≡ lo
+  pub upper : lent .1 .1 .0 ≡ hi
+  pub roomThen : lent .1 .1 .1 .0 .now ≡ room
   pub number : result .number ≡ n
   pub size : result .length ≡ l
-  pub roomNow : left .1 .0 .now ≡ after
+  pub roomNow : left .1 .1 .1 .0 .now ≡ after
   pub allowed : normalise.Post κs lent result left

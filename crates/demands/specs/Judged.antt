@@ -4,7 +4,8 @@
 -- sameBytes a b == the bytes a are the bytes b
 -- gives g n after == the answer g is the number n and the room `after`
 -- forms g bytes == the answer g is 0, the length of the normal form `bytes`, and the room of 600 bytes with these in front, all others 165
--- comesOut row == the definitions give what the row says. The room of a list is a byte longer than the list, that of a form 600 bytes, all 165
+-- comesOut row == the definitions give what the row says. The room of a list is a byte longer than the list, that of a form 600 bytes, all 165; a form is that
+--                of all 32-bit integers
 -- allComeOut rows == every row is so
 -- judged      == the table
 -- Assumes nothing: these are definitions.
@@ -15,6 +16,7 @@ use lib.Dec.{eqb}
 use lib.ListN.{length, replicate}
 use lib.IntN.{ℤ, pos}
 use Rattle.format.specs.declared.Family.{Family}
+use Rattle.integers.specs.Integer.{least, greatest}
 use Rattle.matching.specs.Answer.{Given, given, matchAnswer}
 use Rattle.forms.specs.Answer.{Answer, answer, normalised}
 
@@ -36,7 +38,7 @@ forms (answer n l room) bytes = eqb n 0 && (eqb l (length bytes) && sameBytes ro
 
 unfoldable pub comesOut : Row → Bool
 comesOut (onList t xs n after) = gives (matchAnswer Family.Integers t xs (replicate (suc (length xs)) 165)) n after
-comesOut (ofForm t bytes) = forms (normalised t (replicate 600 165)) bytes
+comesOut (ofForm t bytes) = forms (normalised least greatest t (replicate 600 165)) bytes
 
 unfoldable pub allComeOut : List Row → Bool
 allComeOut [] = true
