@@ -5,18 +5,21 @@
 //     is lent, and the line is `NUMBER ROOM`.
 //   2, FAMILY, u16 t, t template bytes, u16 n, n elements, u16 w, w witness bytes: a judgement. The line
 //     is `NUMBER`.
-//   3, u16 t, t template bytes, u16 r: a normal form. The line is `NUMBER LENGTH ROOM`.
+//   3, u16 t, t template bytes, the lower and the upper bound of the type, u16 r: a normal form. The line is
+//     `NUMBER LENGTH ROOM`.
 //   7, FAMILY, u16 t, t template bytes, u16 n, n elements: why not. The line is `NUMBER GROUP`, the mask in
 //     eight hexadecimal digits, `-` where no group is given.
 // FAMILY is a byte: 0, and the elements are integers of four bytes, or 1, and they are floats of eight; every
-// pattern of a NaN is the same element. ROOM is the whole room afterwards in hexadecimal, `-` where r is 0. A
+// pattern of a NaN is the same element. A bound is an integer. ROOM is the whole room afterwards in hexadecimal, `-` where r is 0. A
 // request over its bounds (t 5,000, n 64, r and w 1,024), another first byte or family, and a request that
 // ends early get the line `bad`, and the run ends.
+use answers::Normal;
 use ask_parts::Answer;
 use ask_parts::FLOATS;
 use ask_parts::JUDGE;
 use ask_parts::MATCH;
 use ask_parts::NORMALISE;
+use ask_parts::Request;
 use ask_parts::print_answer;
 use ask_parts::read_request;
 use matcher::judge;
@@ -38,6 +41,16 @@ fn of_number(number: u8) -> Answer {
     }
 }
 
+// What the normaliser gives back under the type of these bounds.
+fn of_form(template: &[u8], lower: i32, upper: i32, room: &mut [u8]) -> Answer {
+    let form: Normal = normalise(template, lower, upper, room);
+    Answer {
+        number: form.number,
+        length: form.length,
+        group: 0,
+    }
+}
+
 // What the entry point for this kind and a list of integers gives back.
 fn of_integers(kind: usize, template: &[u8], list: &[i32], room: &mut [u8]) -> Answer {
     if kind == MATCH {
@@ -45,14 +58,6 @@ fn of_integers(kind: usize, template: &[u8], list: &[i32], room: &mut [u8]) -> A
     }
     if kind == JUDGE {
         return of_number(judge(template, list, room));
-    }
-    if kind == NORMALISE {
-        let form = normalise(template, room);
-        return Answer {
-            number: form.number,
-            length: form.length,
-            group: 0,
-        };
     }
     let why = why_not(template, list);
     Answer {
@@ -80,30 +85,31 @@ fn of_floats(kind: usize, template: &[u8], list: &[f64], room: &mut [u8]) -> Ans
 
 // The room of a judgement holds the witness. Of a bad request nothing of this is printed.
 fn answer_of(
-    kind: usize,
-    family: usize,
+    request: Request,
     template: &[u8],
     integers: &[i32],
     floats: &[f64],
     room: &mut [u8],
 ) -> Answer {
-    if family == FLOATS {
-        return of_floats(kind, template, floats, room);
+    if request.kind == NORMALISE {
+        return of_form(template, request.lower, request.upper, room);
     }
-    of_integers(kind, template, integers, room)
+    if request.family == FLOATS {
+        return of_floats(request.kind, template, floats, room);
+    }
+    of_integers(request.kind, template, integers, room)
 }
 
 // Prints the line, and says whether another request may follow.
 fn answer(
-    kind: usize,
-    family: usize,
+    request: Request,
     template: &[u8],
     integers: &[i32],
     floats: &[f64],
     room: &mut [u8],
 ) -> bool {
-    let given = answer_of(kind, family, template, integers, floats, room);
-    print_answer(kind, given, room)
+    let given = answer_of(request, template, integers, floats, room);
+    print_answer(request.kind, given, room)
 }
 
 // Both lists have as many elements as were read; only that of the family is looked at.
@@ -117,8 +123,7 @@ fn take_request() -> bool {
     let n = request.list;
     let r = request.room;
     answer(
-        request.kind,
-        request.family,
+        request,
         &template[..t],
         &integers[..n],
         &floats[..n],

@@ -35,13 +35,22 @@ const ASKED_LIST_MOST: usize = 64;
 const ASKED_ROOM_MOST: usize = 1024;
 
 // What stands at the front of the arrays that are lent: template bytes, integers or floats as the family says, and the bytes of the room or the
-// witness.
+// witness. `lower` and `upper` are the bounds of the type of a normal form.
 pub struct Request {
     pub kind: usize,
     pub family: usize,
     pub template: usize,
+    pub lower: i32,
+    pub upper: i32,
     pub list: usize,
     pub room: usize,
+}
+
+// The bounds of a type, and whether they were there to be read.
+struct Bounds {
+    read: bool,
+    lower: i32,
+    upper: i32,
 }
 
 // What an entry point gives back: a number, and the length of a normal form or the mask of a group.
@@ -163,6 +172,18 @@ fn read_family(kind: usize) -> usize {
     next_byte()
 }
 
+// Reads the bounds of the type. Only a normal form has them.
+fn read_bounds(kind: usize) -> Bounds {
+    let mut both = [0i32; 2];
+    let n = if kind == NORMALISE { 2 } else { 0 };
+    let read = read_integers(&mut both, n);
+    Bounds {
+        read,
+        lower: both[0],
+        upper: both[1],
+    }
+}
+
 // Reads the last count, and the witness of a judgement.
 fn read_room(kind: usize, room: &mut [u8]) -> usize {
     if kind == WHY_NOT {
@@ -181,12 +202,21 @@ fn without_parts(kind: usize) -> Request
         kind,
         family: INTEGERS,
         template: 0,
+        lower: 0,
+        upper: 0,
         list: 0,
         room: 0,
     }
 }
 
-fn within_bounds(kind: usize, family: usize, template: usize, list: usize, room: usize) -> Request
+fn within_bounds(
+    kind: usize,
+    family: usize,
+    template: usize,
+    bounds: Bounds,
+    list: usize,
+    room: usize,
+) -> Request
     ensures { λ r. ⌜ (r .template ≤ 5000) × (r .list ≤ 64) × (r .room ≤ 1024) ⌝ }
 {
     if kind == ABSENT {
@@ -196,6 +226,9 @@ fn within_bounds(kind: usize, family: usize, template: usize, list: usize, room:
         return without_parts(BAD);
     }
     if ASKED_TEMPLATE_MOST < template {
+        return without_parts(BAD);
+    }
+    if !bounds.read {
         return without_parts(BAD);
     }
     if ASKED_LIST_MOST < list {
@@ -208,6 +241,8 @@ fn within_bounds(kind: usize, family: usize, template: usize, list: usize, room:
         kind,
         family,
         template,
+        lower: bounds.lower,
+        upper: bounds.upper,
         list,
         room,
     }
@@ -225,9 +260,10 @@ pub fn read_request(
     let kind = next_byte();
     let family = read_family(kind);
     let t = read_part(template);
+    let bounds = read_bounds(kind);
     let n = read_list(kind, family, integers, floats);
     let r = read_room(kind, room);
-    within_bounds(kind, family, t, n, r)
+    within_bounds(kind, family, t, bounds, n, r)
 }
 
 fn print(byte: u8) {

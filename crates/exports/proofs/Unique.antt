@@ -4,7 +4,7 @@ use borrow.Fn.Kinds.{Dens, resT, endedOf}
 use contract.Lifetimes.{Lfts}
 use denote.Triple.Clauses.{AtExit}
 use Rattle.matcher.proofs.Unique.{one-given}
-use Rattle.normal.proofs.Unique.{answer-parts}
+use Rattle.forms.proofs.Unique.{answer-parts}
 use Rattle.why.proofs.NumberAndGroup.{one-number, one-group}
 use Rattle.exports.proofs.intake_match.Reads as intake-match
 use Rattle.exports.proofs.intake_match.Kinds as intake-match-kinds
@@ -12,6 +12,8 @@ use Rattle.exports.proofs.intake_judge.Reads as intake-judge
 use Rattle.exports.proofs.intake_judge.Kinds as intake-judge-kinds
 use Rattle.exports.proofs.intake_normalise.Reads as intake-normalise
 use Rattle.exports.proofs.intake_normalise.Kinds as intake-normalise-kinds
+use Rattle.exports.proofs.intake_normalise_typed.Reads as intake-normalise-typed
+use Rattle.exports.proofs.intake_normalise_typed.Kinds as intake-normalise-typed-kinds
 use Rattle.exports.proofs.intake_why_not.Reads as intake-why-not
 use Rattle.exports.proofs.intake_why_not.Kinds as intake-why-not-kinds
 use Rattle.exports.proofs.intake_match_floats.Reads as intake-match-floats
@@ -34,6 +36,10 @@ intake-judge-unique κs a r r′ s s′ p q = p ∙ sym q
 pub intake-normalise-unique : (κs : Lfts 3) (a : Dens κs intake-normalise-kinds.ps) (r r′ : resT intake-normalise-kinds.r κs .Denot) (s s′ : AtExit (endedOf 3 intake-normalise-kinds.ps intake-normalise-kinds.r) κs)
     → intake-normalise.Post κs a r s → intake-normalise.Post κs a r′ s′ → (r ≡ r′) × (s .1 .1 .0 .now ≡ s′ .1 .1 .0 .now) × (s .1 .0 .now ≡ s′ .1 .0 .now)
 intake-normalise-unique κs a r r′ s s′ p q = answer-parts _ r r′ _ _ _ _ p q
+
+pub intake-normalise-typed-unique : (κs : Lfts 3) (a : Dens κs intake-normalise-typed-kinds.ps) (r r′ : resT intake-normalise-typed-kinds.r κs .Denot) (s s′ : AtExit (endedOf 3 intake-normalise-typed-kinds.ps intake-normalise-typed-kinds.r) κs)
+    → intake-normalise-typed.Post κs a r s → intake-normalise-typed.Post κs a r′ s′ → (r ≡ r′) × (s .1 .1 .1 .1 .0 .now ≡ s′ .1 .1 .1 .1 .0 .now) × (s .1 .1 .1 .0 .now ≡ s′ .1 .1 .1 .0 .now)
+intake-normalise-typed-unique κs a r r′ s s′ p q = answer-parts _ r r′ _ _ _ _ p q
 
 -- number and group
 pub intake-why-not-unique : (κs : Lfts 3) (a : Dens κs intake-why-not-kinds.ps) (r r′ : resT intake-why-not-kinds.r κs .Denot) (s s′ : AtExit (endedOf 3 intake-why-not-kinds.ps intake-why-not-kinds.r) κs)

@@ -3,8 +3,12 @@
 ghost use mathlib.Core.Path.{_≡_};
 ghost use Rattle.format.specs.declared.Family.{Family};
 ghost use Rattle.matching.specs.Answer.{given, matchAnswer, judgeAnswer};
+ghost use Rattle.integers.specs.Integer.{least, greatest};
 ghost use Rattle.forms.specs.Answer.{answer, normalised};
 ghost use Rattle.why.specs.Why.{WhyOf};
+use answers::Normal;
+use format::GREATEST;
+use format::LEAST;
 use matcher::judge;
 use matcher::judge_floats;
 use matcher::match_floats;
@@ -29,14 +33,31 @@ pub extern "C" fn intake_judge(template: &[u8], list: &[i32], witness: &[u8]) ->
     judge(template, list, witness)
 }
 
-// The normal form of one element template at the front of the room, and its length; with any number but 0 the length is 0.
+// The normal form of one element template at the front of the room, and its length; with any number but 0 the length is 0. Its type is all 32-bit
+// integers.
 #[no_mangle]
 pub extern "C" fn intake_normalise(template: &[u8], room: &mut [u8], length: &mut usize) -> u8
-    ensures { λ r. ⌜ answer r (now (length .exit)) (now (room .exit)) ≡ normalised (now (template .entry)) (now (room .entry)) ⌝ }
+    ensures { λ r. ⌜ answer r (now (length .exit)) (now (room .exit)) ≡ normalised least greatest (now (template .entry)) (now (room .entry)) ⌝ }
 {
-    let given = normalise(template, room);
+    let given: Normal = normalise(template, LEAST, GREATEST, room);
     *length = given.length;
     given.number
+}
+
+// The same under a type, the integers from `lower` to `upper`.
+#[no_mangle]
+pub extern "C" fn intake_normalise_typed(
+    template: &[u8],
+    lower: i32,
+    upper: i32,
+    room: &mut [u8],
+    length: &mut usize,
+) -> u8
+    ensures { λ r. ⌜ answer r (now (length .exit)) (now (room .exit)) ≡ normalised lower upper (now (template .entry)) (now (room .entry)) ⌝ }
+{
+    let form: Normal = normalise(template, lower, upper, room);
+    *length = form.length;
+    form.number
 }
 
 // The matcher's number, and the group that is the reason as a mask, 0 where none is given.
