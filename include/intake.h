@@ -12,8 +12,8 @@
  *   - Nobody writes to an argument until the function has returned, and nobody reads what it writes.
  * Nothing else is read or written: there is no state, no memory is asked for, and no pointer is kept. Any number of threads may call at once.
  *
- * Stack, by the frames of the compiled code when this was written and how deep its calls can nest (not proved): intake_normalise at most 112 kB, the
- * others at most 11 kB.
+ * Stack, by the frames of the compiled code when this was written and how deep its calls can nest (not proved): intake_normalise and
+ * intake_normalise_typed at most 112 kB, the others at most 11 kB.
  */
 #ifndef INTAKE_H
 #define INTAKE_H
@@ -41,7 +41,9 @@ enum {
     INTAKE_LIST_TOO_LONG = 11,  /* list over INTAKE_LIST_MOST elements */
     INTAKE_ROOM_TOO_SHORT = 12, /* room shorter than the list, or than the normal form */
     INTAKE_OTHER_LENGTH = 13,   /* offered witness not as long as the list */
-    INTAKE_NOT_A_NUMBER = 14    /* NaN in a template of floats */
+    INTAKE_NOT_A_NUMBER = 14,   /* NaN in a template of floats */
+    INTAKE_LEAF_OUTSIDE = 16,   /* value or range of the template that reaches outside its type */
+    INTAKE_ELEMENT_OUTSIDE = 17 /* element of the list outside the type of the template */
 };
 
 /* The limits, in bytes, elements and bytes. A room of INTAKE_LIST_MOST bytes is enough for every witness, one of INTAKE_FORM_MOST for every form. */
@@ -50,7 +52,8 @@ enum {
 #define INTAKE_FORM_MOST 578
 
 /*
- * Does the list match the template?
+ * Does the list match the template? A template may have a type, the integers from a lower to an upper bound: any value and complement are over the
+ * type, and a list with an element outside it is refused. Without one the type is all 32-bit integers.
  * Reads template_length bytes at template_bytes and list_length integers at list.
  * Writes, with INTAKE_DONE only, the first list_length bytes of the room: the first witness in byte order, for each element the member that it is
  * given to. No other byte of the room changes, and with any other number none does.
@@ -75,10 +78,23 @@ uint8_t intake_judge(const uint8_t *template_bytes, size_t template_length,
  * Reads template_length bytes at template_bytes.
  * Writes *length, always: with INTAKE_DONE how many bytes the form has, else 0. length must not be NULL.
  * Writes, with INTAKE_DONE only, the first *length bytes of the room: the form. No other byte of the room changes, and with any other number none does.
- * Never gives INTAKE_NO_MATCH, INTAKE_LENGTH_CLASH, INTAKE_LIST_TOO_LONG, INTAKE_OTHER_LENGTH or INTAKE_NOT_A_NUMBER.
+ * Never gives INTAKE_NO_MATCH, INTAKE_LENGTH_CLASH, INTAKE_LIST_TOO_LONG, INTAKE_OTHER_LENGTH, INTAKE_NOT_A_NUMBER, INTAKE_LEAF_OUTSIDE or
+ * INTAKE_ELEMENT_OUTSIDE.
  */
 uint8_t intake_normalise(const uint8_t *template_bytes, size_t template_length,
                          uint8_t *room, size_t room_length, size_t *length);
+
+/*
+ * The normal form of one element template under a type, the integers from lower to upper, both of them too: two templates that match the same integers of
+ * the type are the same bytes. With INT32_MIN and INT32_MAX it does what intake_normalise does.
+ * Reads template_length bytes at template_bytes.
+ * Writes what intake_normalise writes. length must not be NULL.
+ * Gives INTAKE_BAD_BOUNDS also where lower is above upper, and INTAKE_LEAF_OUTSIDE where a value or a range reaches outside the type.
+ * Never gives INTAKE_NO_MATCH, INTAKE_LENGTH_CLASH, INTAKE_LIST_TOO_LONG, INTAKE_OTHER_LENGTH, INTAKE_NOT_A_NUMBER or INTAKE_ELEMENT_OUTSIDE.
+ */
+uint8_t intake_normalise_typed(const uint8_t *template_bytes, size_t template_length,
+                               int32_t lower, int32_t upper,
+                               uint8_t *room, size_t room_length, size_t *length);
 
 /*
  * Why does the list not match? The number is the one that intake_match gives with a room that is long enough.
@@ -95,7 +111,7 @@ uint8_t intake_why_not(const uint8_t *template_bytes, size_t template_length,
  * element, a NaN too: only a 03 and a complement match it.
  * Reads template_length bytes at template_bytes and list_length floats at list.
  * Writes what intake_match writes.
- * Gives every number but INTAKE_OTHER_LENGTH.
+ * Gives every number but INTAKE_OTHER_LENGTH, INTAKE_LEAF_OUTSIDE and INTAKE_ELEMENT_OUTSIDE: floats have no type.
  */
 uint8_t intake_match_floats(const uint8_t *template_bytes, size_t template_length,
                             const double *list, size_t list_length,
@@ -105,7 +121,7 @@ uint8_t intake_match_floats(const uint8_t *template_bytes, size_t template_lengt
  * Does the offered witness of a list of floats obey: INTAKE_DONE, INTAKE_NO_MATCH, or a refusal.
  * Reads template_length bytes at template_bytes, list_length floats at list and witness_length bytes at witness.
  * Writes nothing.
- * Gives every number but INTAKE_ROOM_TOO_SHORT.
+ * Gives every number but INTAKE_ROOM_TOO_SHORT, INTAKE_LEAF_OUTSIDE and INTAKE_ELEMENT_OUTSIDE.
  */
 uint8_t intake_judge_floats(const uint8_t *template_bytes, size_t template_length,
                             const double *list, size_t list_length,
@@ -115,7 +131,7 @@ uint8_t intake_judge_floats(const uint8_t *template_bytes, size_t template_lengt
  * Why does the list of floats not match? The number is the one that intake_match_floats gives with a room that is long enough.
  * Reads template_length bytes at template_bytes and list_length floats at list.
  * Writes *group as intake_why_not does, always. group must not be NULL.
- * Never gives INTAKE_ROOM_TOO_SHORT or INTAKE_OTHER_LENGTH.
+ * Never gives INTAKE_ROOM_TOO_SHORT, INTAKE_OTHER_LENGTH, INTAKE_LEAF_OUTSIDE or INTAKE_ELEMENT_OUTSIDE.
  */
 uint8_t intake_why_not_floats(const uint8_t *template_bytes, size_t template_length,
                               const double *list, size_t list_length, uint32_t *group);

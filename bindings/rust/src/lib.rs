@@ -48,7 +48,7 @@ pub enum Answer {
     Matched(Witness),
     /// No assignment of elements to members obeys the rule.
     NoMatch,
-    /// The bytes are no rule.
+    /// The bytes are no rule, or the list is not of the rule's type.
     Refused(Refusal),
 }
 
@@ -59,7 +59,7 @@ pub enum Verdict {
     Obeys,
     /// It does not.
     DoesNotObey,
-    /// The bytes are no rule.
+    /// The bytes are no rule, or the list is not of the rule's type.
     Refused(Refusal),
 }
 
@@ -74,11 +74,22 @@ pub enum Why {
     Members(Group),
     /// The rule is a subset, and these elements together are matched by fewer members than they are.
     Elements(Group),
-    /// The bytes are no rule.
+    /// The bytes are no rule, or the list is not of the rule's type.
     Refused(Refusal),
 }
 
 /// Whether the list matches the rule, and by which witness: the first in byte order.
+///
+/// ```
+/// use intake::{match_list, Answer, List, Refusal};
+///
+/// let afternoon = [
+///     0x31, 0, 0, 0, 0, 23, 0, 0, 0, // of the type 0 to 23:
+///     0x10, 1, 0x05, 1, 0x02, 0, 0, 0, 0, 11, 0, 0, 0, // {complement((0..11))}
+/// ];
+/// assert!(matches!(match_list(&afternoon, List::new(&[12]).unwrap()), Answer::Matched(_)));
+/// assert_eq!(match_list(&afternoon, List::new(&[40]).unwrap()), Answer::Refused(Refusal::ElementOutside));
+/// ```
 pub fn match_list(rule: &[u8], list: List<'_>) -> Answer {
     let mut room = [0; LIST_MOST];
     let number = library::match_list(rule, list.elements(), &mut room);
@@ -144,6 +155,28 @@ fn verdict(number: u8) -> Verdict {
 pub fn normalise(template: &[u8]) -> Result<Form, Refusal> {
     let mut room = [0; FORM_MOST];
     let (number, length) = library::normalise(template, &mut room);
+    form(number, room, length)
+}
+
+/// The same under a type, the integers from `lower` to `upper`, both of them too: two templates that match the same integers of the type have the
+/// same form. With [`i32::MIN`] and [`i32::MAX`] it is that of [`normalise`].
+///
+/// ```
+/// use intake::{normalise_typed, Refusal};
+///
+/// let morning = [2, 0, 0, 0, 0, 11, 0, 0, 0]; // (0..11)
+/// let form = normalise_typed(&morning, 0, 23).unwrap();
+/// assert_eq!(*form, [5, 1, 2, 12, 0, 0, 0, 23, 0, 0, 0]); // complement((12..23))
+/// assert_eq!(normalise_typed(&morning, 0, 10), Err(Refusal::LeafOutside));
+/// assert_eq!(normalise_typed(&morning, 23, 0), Err(Refusal::BadBounds));
+/// ```
+pub fn normalise_typed(template: &[u8], lower: i32, upper: i32) -> Result<Form, Refusal> {
+    let mut room = [0; FORM_MOST];
+    let (number, length) = library::normalise_typed(template, lower, upper, &mut room);
+    form(number, room, length)
+}
+
+fn form(number: u8, room: [u8; FORM_MOST], length: usize) -> Result<Form, Refusal> {
     match number {
         DONE => Ok(Form::at_front(room, length)),
         number => Err(Refusal::of(number)),
@@ -182,10 +215,19 @@ fn reason(rule: &[u8], number: u8, mask: u32) -> Why {
     }
 }
 
-/// Whether the body of an accepted rule is a subset. It stands at the front, or after a length attribute of three bytes.
+/// Whether the body of an accepted rule is a subset. It stands at the front, or after a length attribute, a type, or both.
 fn is_subset(rule: &[u8]) -> bool {
     const LENGTH: u8 = 0x30;
+    const BOUNDS_SIZE: usize = 3;
+    const TYPE: u8 = 0x31;
+    const TYPE_SIZE: usize = 9;
     const SUBSET: u8 = 0x13;
-    let body = if rule.first() == Some(&LENGTH) { 3 } else { 0 };
+    let mut body = 0;
+    if rule.get(body) == Some(&LENGTH) {
+        body += BOUNDS_SIZE;
+    }
+    if rule.get(body) == Some(&TYPE) {
+        body += TYPE_SIZE;
+    }
     rule.get(body) == Some(&SUBSET)
 }

@@ -32,6 +32,16 @@ extern "C" {
         length: *mut usize,
     ) -> u8;
 
+    fn intake_normalise_typed(
+        template: *const u8,
+        template_length: usize,
+        lower: i32,
+        upper: i32,
+        room: *mut u8,
+        room_length: usize,
+        length: *mut usize,
+    ) -> u8;
+
     fn intake_why_not(
         template: *const u8,
         template_length: usize,
@@ -105,6 +115,29 @@ pub fn normalise(template: &[u8], room: &mut [u8; FORM_MOST]) -> (u8, usize) {
         intake_normalise(
             template.as_ptr(),
             template.len(),
+            room.as_mut_ptr(),
+            room.len(),
+            &mut length,
+        )
+    };
+    (number, length)
+}
+
+/// Of the type from `lower` to `upper`: the number, and how many bytes at the front of the room are the form.
+pub fn normalise_typed(
+    template: &[u8],
+    lower: i32,
+    upper: i32,
+    room: &mut [u8; FORM_MOST],
+) -> (u8, usize) {
+    let mut length = 0;
+    // SAFETY: as said above; `length` is a local of its own.
+    let number = unsafe {
+        intake_normalise_typed(
+            template.as_ptr(),
+            template.len(),
+            lower,
+            upper,
             room.as_mut_ptr(),
             room.len(),
             &mut length,

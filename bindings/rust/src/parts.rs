@@ -127,7 +127,7 @@ impl Group {
     }
 }
 
-/// Why bytes are no rule, by its number in `docs/RULES.md`.
+/// Why bytes are no rule, or a list is not of its type, by its number in `docs/RULES.md`.
 #[derive(Clone, Copy, Debug, PartialEq, Eq, Hash)]
 #[repr(u8)]
 pub enum Refusal {
@@ -151,6 +151,10 @@ pub enum Refusal {
     LeftOver = 10,
     /// A float of the rule is a NaN. Only a rule for floats is refused so.
     NotANumber = 14,
+    /// A value or a range of the rule reaches outside its type.
+    LeafOutside = 16,
+    /// An element of the list is outside the type of the rule.
+    ElementOutside = 17,
 }
 
 impl Refusal {
@@ -172,6 +176,8 @@ impl Refusal {
             8 => Refusal::TooMany,
             9 => Refusal::LengthClash,
             14 => Refusal::NotANumber,
+            16 => Refusal::LeafOutside,
+            17 => Refusal::ElementOutside,
             _ => {
                 debug_assert_eq!(number, 10, "the library gives no such number");
                 Refusal::LeftOver
@@ -193,6 +199,8 @@ impl fmt::Display for Refusal {
             Refusal::LengthClash => "the length attribute leaves no list to the superset or subset",
             Refusal::LeftOver => "bytes are left after the template",
             Refusal::NotANumber => "a float of the template is a NaN",
+            Refusal::LeafOutside => "a value or a range of the template reaches outside its type",
+            Refusal::ElementOutside => "an element of the list is outside the type of the template",
         })
     }
 }

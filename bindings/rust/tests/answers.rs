@@ -1,6 +1,7 @@
 //! The wrapper on the static library: the examples of README.md, each refusal, and the lengths that the types keep out.
 
-use intake::{judge, judge_floats, match_floats, match_list, normalise, why_not, why_not_floats};
+use intake::{judge, judge_floats, match_floats, match_list, why_not, why_not_floats};
+use intake::{normalise, normalise_typed};
 use intake::{Answer, FloatList, List, Refusal, Verdict, Why, FORM_MOST, LIST_MOST, TEMPLATE_MOST};
 
 /// set of {any value, 1}
@@ -39,6 +40,11 @@ fn float(value: f64) -> Vec<u8> {
 
 fn float_range(lower: f64, upper: f64) -> Vec<u8> {
     [&[7], &lower.to_le_bytes()[..], &upper.to_le_bytes()[..]].concat()
+}
+
+/// The head of a rule whose elements are the integers from `lower` to `upper`.
+fn typed(lower: i32, upper: i32) -> Vec<u8> {
+    [&[0x31], &lower.to_le_bytes()[..], &upper.to_le_bytes()[..]].concat()
 }
 
 /// An element template or a body of this kind with these parts.
@@ -99,6 +105,16 @@ fn each_refusal_has_its_number() {
         ),
         (clash, Refusal::LengthClash, 9),
         ([of(0x10, &[]), vec![0]].concat(), Refusal::LeftOver, 10),
+        (
+            [typed(0, 23), of(0x10, &[single(24)])].concat(),
+            Refusal::LeafOutside,
+            16,
+        ),
+        (
+            [typed(2, 23), of(0x10, &[vec![3]])].concat(),
+            Refusal::ElementOutside,
+            17,
+        ),
     ];
     for (rule, refusal, number) in rows {
         assert_eq!(match_list(&rule, list(&[1])), Answer::Refused(refusal));
@@ -117,6 +133,68 @@ fn equal_sets_have_one_form() {
     assert_eq!(normalise(&of(5, &[of(5, &[range(1, 3)])])), Ok(form));
     assert_eq!(normalise(&[1, 2]), Err(Refusal::Missing));
     assert_eq!(normalise(&[3, 3]), Err(Refusal::LeftOver));
+}
+
+#[test]
+fn a_form_is_that_of_its_type() {
+    let (morning, afternoon) = (range(0, 11), range(12, 23));
+    let form = normalise_typed(&morning, 0, 23).unwrap();
+    assert_eq!(*form, of(5, &[afternoon.clone()])[..]);
+    assert_eq!(normalise_typed(&form, 0, 23), Ok(form));
+    let not_morning = of(5, &[morning.clone()]);
+    assert_eq!(
+        *normalise_typed(&not_morning, 0, 23).unwrap(),
+        afternoon[..]
+    );
+    assert_eq!(*normalise_typed(&range(0, 23), 0, 23).unwrap(), [3]);
+    assert_eq!(*normalise_typed(&single(7), 7, 7).unwrap(), [3]);
+    let (least, greatest) = (i32::MIN, i32::MAX);
+    assert_eq!(
+        normalise_typed(&morning, least, greatest),
+        normalise(&morning)
+    );
+    assert_eq!(
+        normalise_typed(&single(24), 0, 23),
+        Err(Refusal::LeafOutside)
+    );
+    assert_eq!(normalise_typed(&[], 5, 4), Err(Refusal::BadBounds));
+    assert_eq!(normalise_typed(&[], 4, 5), Err(Refusal::Missing));
+}
+
+#[test]
+fn a_list_is_of_the_type_of_its_rule() {
+    let rule = [typed(0, 23), of(0x10, &[of(5, &[range(0, 11)])])].concat();
+    let outside = Refusal::ElementOutside;
+    assert_eq!(witness(&rule, &[12]), [0]);
+    assert_eq!(match_list(&rule, list(&[11])), Answer::NoMatch);
+    for other in [24, 40, -1, i32::MIN, i32::MAX] {
+        assert_eq!(match_list(&rule, list(&[other])), Answer::Refused(outside));
+        assert_eq!(judged(&rule, &[other], &[0]), Verdict::Refused(outside));
+        assert_eq!(why_not(&rule, list(&[other])), Why::Refused(outside));
+    }
+    let reversed = [typed(23, 0), of(0x10, &[])].concat();
+    let refused = Answer::Refused(Refusal::BadBounds);
+    assert_eq!(match_list(&reversed, list(&[])), refused);
+    let of_floats = [typed(0, 23), of(0x10, &[])].concat();
+    let refused = Answer::Refused(Refusal::BadKind);
+    assert_eq!(match_floats(&of_floats, floats(&[])), refused);
+}
+
+#[test]
+fn a_group_is_found_behind_every_head() {
+    let few = of(0x13, &[single(1), vec![3]]);
+    for heads in [
+        vec![],
+        vec![0x30, 0, 2],
+        typed(1, 3),
+        [vec![0x30, 0, 2], typed(1, 3)].concat(),
+    ] {
+        let rule = [heads.clone(), few.clone()].concat();
+        match why_not(&rule, list(&[2, 3])) {
+            Why::Elements(group) => assert!(group.places().eq([0, 1])),
+            other => panic!("{heads:?}: {other:?}"),
+        }
+    }
 }
 
 #[test]
