@@ -85,8 +85,8 @@ uint8_t intake_normalise(const uint8_t *template_bytes, size_t template_length,
                          uint8_t *room, size_t room_length, size_t *length);
 
 /*
- * The normal form of one element template under a type, the integers from lower to upper, both of them too: two templates that match the same integers of
- * the type are the same bytes. With INT32_MIN and INT32_MAX it does what intake_normalise does.
+ * The normal form of one element template under a type, the integers from lower to upper, both of them too: two templates that match the same
+ * integers of the type are the same bytes. With INT32_MIN and INT32_MAX it does what intake_normalise does.
  * Reads template_length bytes at template_bytes.
  * Writes what intake_normalise writes. length must not be NULL.
  * Gives INTAKE_BAD_BOUNDS also where lower is above upper, and INTAKE_LEAF_OUTSIDE where a value or a range reaches outside the type.

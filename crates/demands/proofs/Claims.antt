@@ -313,14 +313,14 @@ second = record { matcher = matched-exactly; judge = judged-exactly }
 
 module _ (lo hi : ℤ) (t : List ℕ) (e : Elem Leaf) (n l : ℕ) (f : List ℕ) (c : FormCall lo hi t e n l f) where
   side : Side lo hi e
-  side = let b = c .type in side-of lo hi (b .lower) (b .upper) (b .order) t e (c .accepted)
+  side = let b = c .type in side-of lo hi (b .0) (b .1) (b .2) t e (c .accepted)
 
   form-answer : answer n l (c .after) ≡ answer 0 (length (normalForm lo hi e)) (normalForm lo hi e ++ drop (length (normalForm lo hi e)) (c .room))
   form-answer =
       let size = side .size in
       let roomy = c .roomy in
       let b = c .type in
-      sym (normal-answer t lo hi (c .room) n l (c .after) (c .call)) ∙ form-placed lo hi (b .lower) (b .upper) (b .order) t e (c .room) (c .accepted) (omega arith)
+      sym (normal-answer t lo hi (c .room) n l (c .after) (c .call)) ∙ form-placed lo hi (b .0) (b .1) (b .2) t e (c .room) (c .accepted) (omega arith)
 
   form-size : l ≡ length (normalForm lo hi e)
   form-size = let q = form-answer in cc
@@ -353,9 +353,9 @@ module _ (lo hi : ℤ) (t : List ℕ) (e : Elem Leaf) (n l : ℕ) (f : List ℕ)
   form-again room n′ l′ after c′ roomy =
       let b = c .type in
       let e′ = side .what in
-      let is : normalForm lo hi e′ ≡ normalForm lo hi e = form-of-form lo hi (b .lower) (b .upper) (b .order) t e (c .accepted) e′ (accepted-side lo hi e side) in
+      let is : normalForm lo hi e′ ≡ normalForm lo hi e = form-of-form lo hi (b .0) (b .1) (b .2) t e (c .accepted) e′ (accepted-side lo hi e side) in
       let g = normal-given lo hi f room n′ l′ after c′ in
-      let z : n′ ≡ 0 = g .done .1 (e′, b .order, form-reads, omega (arith, ap length is, form-size, roomy)) in
+      let z : n′ ≡ 0 = g .done .1 (e′, b .2, form-reads, omega (arith, ap length is, form-size, roomy)) in
       let w = g .written z e′ form-reads in
       let size : l′ ≡ length (normalForm lo hi e′) = w .0 in
       (z, size ∙ ap length is ∙ sym form-size, ap (take l′) (w .1) ∙ take-at (normalForm lo hi e′) (drop l′ room) l′ (sym size) ∙ is ∙ sym form-there)
@@ -364,10 +364,10 @@ ranges-maximal : (lo hi : ℤ) (t : List ℕ) (e : Elem Leaf) → IsType lo hi �
 ranges-maximal lo hi t e b a =
     let g = typed-facts lo hi t e a .0 in
     record {
-      ascending = ascending-in lo hi (b .lower) (b .upper) (b .order) e g;
-      inside = inside-in lo hi (b .lower) (b .upper) (b .order) e g;
-      right = right-in lo hi (b .lower) (b .upper) (b .order) e g;
-      widest = widest-of lo hi (b .lower) (b .upper) (b .order) e g;
+      ascending = ascending-in lo hi (b .0) (b .1) (b .2) e g;
+      inside = inside-in lo hi (b .0) (b .1) (b .2) e g;
+      right = right-in lo hi (b .0) (b .1) (b .2) e g;
+      widest = widest-of lo hi (b .0) (b .1) (b .2) e g;
     }
 
 pub third : Third
@@ -377,8 +377,8 @@ third = record {
       let b = c .type in
       let there : f ≡ normalForm lo hi e = form-there lo hi t e n l f c in
       let there′ : f′ ≡ normalForm lo hi e′ = form-there lo hi t′ e′ n′ l′ f′ c′ in (
-        λ h. same-form-same-integers lo hi (b .lower) (b .upper) (b .order) t e (c .accepted) t′ e′ (c′ .accepted) (sym there ∙ h ∙ there′),
-        λ h. there ∙ same-integers-same-form lo hi (b .lower) (b .upper) (b .order) t e (c .accepted) t′ e′ (c′ .accepted) h ∙ sym there′,
+        λ h. same-form-same-integers lo hi (b .0) (b .1) (b .2) t e (c .accepted) t′ e′ (c′ .accepted) (sym there ∙ h ∙ there′),
+        λ h. there ∙ same-integers-same-form lo hi (b .0) (b .1) (b .2) t e (c .accepted) t′ e′ (c′ .accepted) h ∙ sym there′,
       );
   again = form-again;
   maximal = ranges-maximal;

@@ -149,10 +149,8 @@ pub record Demand2 : Type 0 where
 
 -- ---- demand 3
 
-pub record IsType (lo hi : ℤ) : Type 0 where
-  pub lower : Word lo
-  pub upper : Word hi
-  pub order : lo ≤ℤ hi
+abbrev pub IsType : ℤ → ℤ → Type 0
+IsType lo hi = Word lo × Word hi × (lo ≤ℤ hi)
 
 pub record FormCall (lo hi : ℤ) (t : List ℕ) (e : Elem Leaf) (n l : ℕ) (f : List ℕ) : Type 0 where
   pub room : List ℕ

@@ -1,4 +1,4 @@
--- `items::integer_member_end` meets its contract. Assumes nothing.
+-- `items::group::integer_member_end` meets its contract. Assumes nothing.
 use Prim.Native.Nat.{_≤_}
 use mathlib.Core.Path.{refl}
 use Rattle.sorts.specs.Sorts.{whole}
