@@ -65,6 +65,7 @@ fn type_fault(t: &[u8], at: usize) -> u8
     DONE
 }
 
+// What holds where no head stands.
 fn no_heads(family: Family) -> Heads
     ensures { λ r. ⌜ NoHeads family r ⌝ }
 {
@@ -78,6 +79,7 @@ fn no_heads(family: Family) -> Heads
     }
 }
 
+// Heads that are refused with this number.
 fn refused_heads(code: u8) -> Heads
     ensures { λ r. ⌜ r ≡ refusedHeads code ⌝ }
 {

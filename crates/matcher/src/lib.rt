@@ -100,6 +100,7 @@ pub fn match_planned(
     if room.len() < n {
         return ROOM_TOO_SHORT;
     }
+    // A plan that says all the integers is of an accepted template, and refuses no list.
     let sort = plan.sort;
     if sort.word != WHOLE {
         let number = refusal_by(plan.number, sort, integers);
