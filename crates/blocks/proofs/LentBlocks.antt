@@ -6,7 +6,7 @@ use mathlib.Core.Bool.{Bool}
 use mathlib.Core.List.{List, [], _∷_, _++_}
 use Prim.Native.Nat.{ℕ, zero, suc, _+_, _≤_, _<_}
 use native.Mathlib.Omega.{arith}
-use lib.ListN.{length, getD, take, drop}
+use lib.ListN.{getD, take, drop}
 use Rattle.facts.proofs.Slices.{nil-of-length}
 use Rattle.blocks.specs.declared.Block.{Block}
 use Rattle.blocks.specs.Numbers.{blockIn, blocksIn}

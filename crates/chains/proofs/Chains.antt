@@ -11,12 +11,12 @@ use lib.Dec.{eqb}
 use lib.Bits.{bitAnd, bitXor}
 use lib.ListN.{length, getD, set, length-set}
 use lib.Seq.{getD-set-same, getD-set-other}
-use Rattle.facts.specs.Counting.{between, cnt, count, oneIf}
+use Rattle.facts.specs.Counting.{between, cnt, oneIf}
 use Rattle.masks.specs.Masks.{bit, Plus, Flipped}
 use Rattle.chains.specs.Chain.{Spares, Ready, reach, within, Served, Filled, Shut, Stuck, Settled}
 use Rattle.facts.proofs.Cases.{same?, below, holds?, clash, not-so, and-left, and-right, both, one-of, or-left, or-right, hit, miss}
 use Rattle.facts.proofs.Spans.{between-in, between-from, between-to}
-use Rattle.facts.proofs.Counting.{cnt-set, count-less}
+use Rattle.facts.proofs.Counting.{cnt-set}
 use Rattle.masks.proofs.Masks.{odd, bit-and, bit-xor, and-bits}
 use Rattle.masks.proofs.OneByOne.{flipped-down, flipped-out}
 

@@ -1,6 +1,6 @@
 -- One record at a place of the input: its faults, and its parts where it has none. Assumes nothing.
 use mathlib.Core.Path.{_≡_, refl, sym, ap, _∙_}
-use mathlib.Core.Bool.{Bool, true, false, _||_, cond, true≢false}
+use mathlib.Core.Bool.{Bool, true, false, cond, true≢false}
 use mathlib.Core.Logic.{_⊎_, inl, inr, ⊎-elim}
 use Rattle.facts.proofs.Cases.{by-test}
 use mathlib.Core.List.{List}

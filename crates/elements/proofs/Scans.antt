@@ -8,14 +8,13 @@ use native.Mathlib.Omega.{arith}
 use borrow.Author.Tests.{lt-ltb, le-ltb}
 use lib.ListN.{length, getD, drop}
 use Rattle.grammar.specs.Element.{Elem, leaf, oneOf, noneOf, Elems, none, more}
-use Rattle.format.specs.declared.Family.{Family}
 use Rattle.grammar.specs.Family.{LeafOf}
 use Rattle.sorts.specs.declared.Sort.{Sort}
 use Rattle.sorts.specs.Sorts.{familyOf, leavesFor}
 use Rattle.grammar.specs.Record.{Head, fault, leafHere, group, head}
 use Rattle.grammar.specs.Read.{Read, refuse, got}
 use Rattle.grammar.specs.Reading.{Counted, counted, putFirst, thenMore, many, closed, tooDeep, opened, elem, outermost}
-use Rattle.elements.specs.Contract.{faultIn, placeIn, countIn, Place, From, groupKind, HeadAt, faulty, aLeaf, aGroup, Noted, stopped, noted, Ended, leavesTo, ScannedOne, ScannedAll}
+use Rattle.elements.specs.Contract.{faultIn, placeIn, countIn, From, groupKind, HeadAt, faulty, aLeaf, aGroup, Noted, stopped, noted, Ended, leavesTo, ScannedOne, ScannedAll}
 use Rattle.facts.proofs.Cases.{below, clash}
 use Rattle.elements.proofs.Records.{head-none}
 

@@ -1,6 +1,6 @@
 -- One record at a place of the input, with a type and without one. Assumes nothing.
-use mathlib.Core.Path.{_≡_, refl, sym, ap, ap₂, _∙_, subst, subst₂}
-use mathlib.Core.Bool.{Bool, true, false, _||_}
+use mathlib.Core.Path.{_≡_, sym, ap, ap₂, _∙_, subst, subst₂}
+use mathlib.Core.Bool.{true, false, _||_}
 use mathlib.Core.List.{List}
 use mathlib.Core.Logic.{⊎-elim}
 use Prim.Native.Nat.{ℕ, _+_, _/_, _%_, _≤_, _<_}
@@ -11,8 +11,8 @@ use lib.ListN.{length, getD, drop}
 use borrow.Author.Tests.{eq-eqb, ne-eqb}
 use Rattle.format.specs.declared.Family.{Family}
 use Rattle.integers.specs.Integer.{least, greatest, signed}
-use Rattle.grammar.specs.Record.{Head, fault, leafHere, group, head}
-use Rattle.grammar.specs.Leaf.{Leaf, single, range, any, lowerOf, upperOf, leafHead, reaches, ofType, typedHead}
+use Rattle.grammar.specs.Record.{fault, leafHere, group, head}
+use Rattle.grammar.specs.Leaf.{Leaf, lowerOf, upperOf, leafHead, reaches, ofType, typedHead}
 use Rattle.grammar.specs.FloatLeaf.{floatHead}
 use Rattle.grammar.specs.Family.{LeafOf, leavesIn}
 use Rattle.sorts.specs.declared.Sort.{Sort}

@@ -1,5 +1,5 @@
 -- The number for a whole input, from a scan of its front: 2 before everything, 10 after everything. Assumes nothing.
-use mathlib.Core.Path.{_≡_, refl, sym, ap, _∙_}
+use mathlib.Core.Path.{_≡_, refl, ap, _∙_}
 use mathlib.Core.List.{List, []}
 use Prim.Native.Nat.{ℕ, _-_, _≤_, _<_}
 use native.Mathlib.Omega.{arith}
@@ -8,7 +8,7 @@ use lib.ListN.{length, drop, drop-of-length-le}
 use lib.Seq.{drop-cons}
 use Rattle.grammar.specs.Read.{Read, refuse, got, ended, limited}
 use Rattle.grammar.specs.Reading.{Counted, counted, uncounted}
-use Rattle.elements.specs.Contract.{faultIn, Noted, stopped, noted, Ended, Answered, rejected, accepted}
+use Rattle.elements.specs.Contract.{Noted, stopped, noted, Ended, Answered, rejected, accepted}
 use Rattle.elements.proofs.Scans.{noted-stopped, noted-read}
 
 module _ {A : Type 0} (t : List ℕ) (o : Read A) where

@@ -24,7 +24,7 @@ use Rattle.floats.specs.Leaves.{oneFault, boundsFault as rangeFault}
 use Rattle.floats.specs.declared.Leaf.{Leaf as FloatLeaf}
 use Rattle.format.specs.declared.Family.{Family}
 use Rattle.grammar.specs.Element.{Elem, Elems, leaf}
-use Rattle.grammar.specs.Template.{Star, noStar, star, Group, grouped, Item, one, permutation, recordOf, setOf, superset, subset, Heads, noHeads, Template, template, membersOfGroup, membersOfItem}
+use Rattle.grammar.specs.Template.{Star, noStar, star, Group, grouped, Item, one, permutation, recordOf, setOf, superset, subset, Heads, noHeads, template, membersOfGroup, membersOfItem}
 use Rattle.format.specs.Bounds.{badBounds}
 use Rattle.grammar.specs.Record.{Head, fault, leafHere, group, kindOf, outside, countFault, boundsFault, typeFault, faultOr, groupHead, head}
 use Rattle.grammar.specs.Leaf.{Leaf, single, range, any, singleHead, rangeHead, leafHead, reaches, ofType, typedHead}

@@ -4,7 +4,7 @@
 -- Inside lo hi e, InsideAll lo hi es <-> no leaf of e, or of es, reaches outside the type from lo to hi
 use mathlib.Core.Path.{_≡_, refl, sym, ap, _∙_}
 use mathlib.Core.Bool.{Bool, true, false}
-use mathlib.Core.List.{List, []}
+use mathlib.Core.List.{List}
 use Prim.Native.Nat.{ℕ, zero, suc, _-_}
 use native.Mathlib.Omega.{arith}
 use borrow.Author.Tests.{le-ltb}

@@ -13,7 +13,7 @@ use Rattle.integers.specs.Integer.{least, greatest, intAt}
 use Rattle.integers.proofs.FourBytes.{intAt-drop}
 use Rattle.format.specs.declared.Family.{Family}
 use Rattle.grammar.specs.Family.{hasTypes}
-use Rattle.grammar.specs.Template.{Length, anyLength, between, Heads, noHeads, template}
+use Rattle.grammar.specs.Template.{Length, between, Heads, noHeads, template}
 use Rattle.sorts.specs.Sorts.{wordOf}
 use Rattle.grammar.specs.Record.{Head, kindOf, outside, countFault, boundsFault, typeFault}
 use Rattle.grammar.specs.Read.{Read, refuse, got, orRefuse, refuseOr, mapRead, andThen}

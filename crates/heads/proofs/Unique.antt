@@ -13,7 +13,7 @@ use Rattle.format.specs.declared.Family.{Family}
 use Rattle.grammar.specs.Read.{Read}
 use Rattle.grammar.specs.Template.{Heads as HeadsRead}
 use Rattle.sorts.specs.Sorts.{wordOf}
-use Rattle.heads.specs.Fronts.{lengthOf, Bounds, Said, refusedHeads, HeadsAt, headsFault, headsRead}
+use Rattle.heads.specs.Fronts.{lengthOf, Bounds, refusedHeads, HeadsAt, headsFault, headsRead}
 use Rattle.heads.specs.declared.Heads.{Heads}
 use Rattle.heads.proofs.heads_of.Reads as heads-of
 use Rattle.heads.proofs.heads_of.Kinds as heads-of-kinds

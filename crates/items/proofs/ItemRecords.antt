@@ -2,14 +2,14 @@
 use mathlib.Core.Path.{_≡_, refl, sym, ap, _∙_}
 use mathlib.Core.Bool.{Bool, true, false, cond}
 use mathlib.Core.List.{List}
-use Prim.Native.Nat.{ℕ, zero, suc, _+_, _-_, _≤_, _<_}
+use Prim.Native.Nat.{ℕ, _+_, _-_, _≤_, _<_}
 use native.Mathlib.Omega.{arith}
 use borrow.Author.Tests.{ltb-false, lt-ltb, le-ltb, ne-eqb}
 use lib.Dec.{ltb}
 use lib.ListN.{length, getD, drop, length-drop}
 use lib.Seq.{getD-drop, drop-drop}
 use Rattle.facts.proofs.Cases.{by-test}
-use Rattle.grammar.specs.Template.{Star, noStar, star, one, permutation}
+use Rattle.grammar.specs.Template.{noStar, star, one, permutation}
 use Rattle.format.specs.Bounds.{badBounds}
 use Rattle.grammar.specs.Record.{Head, fault, leafHere, group, kindOf, countFault, boundsFault, head}
 use Rattle.grammar.specs.Read.{refuse, got, orRefuse, refuseOr, mapRead}

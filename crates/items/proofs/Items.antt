@@ -1,20 +1,19 @@
 -- The items of a record of: what is noted of each. Assumes nothing.
-use mathlib.Core.Path.{_≡_, refl, ap, _∙_}
-use mathlib.Core.Bool.{true, false}
+use mathlib.Core.Path.{_≡_, ap}
+use mathlib.Core.Bool.{true}
 use mathlib.Core.List.{List}
-use Prim.Native.Nat.{ℕ, _+_, _≤_, _<_}
+use Prim.Native.Nat.{ℕ, _+_}
 use native.Mathlib.Omega.{arith}
 use lib.IntN.{ℤ}
-use lib.ListN.{length, getD, drop}
+use lib.ListN.{getD, drop}
 use Rattle.grammar.specs.Element.{Elem}
-use Rattle.grammar.specs.Template.{Star, noStar, star, Group, grouped, Item, one, spares, permutation, membersOfGroup, membersOfItem}
+use Rattle.grammar.specs.Template.{Star, noStar, star, Group, one, spares, permutation, membersOfItem}
 use Rattle.grammar.specs.Record.{countFault}
 use Rattle.format.specs.declared.Family.{Family}
 use Rattle.grammar.specs.Family.{LeafOf, leavesIn}
-use Rattle.grammar.specs.Read.{mapRead}
-use Rattle.grammar.specs.Whole.{asSpares, starHere, members, permutationHere}
-use Rattle.grammar.specs.Blocks.{blockOfGroup, blockOfItem}
-use Rattle.blocks.specs.Numbers.{block, numberOf}
+use Rattle.grammar.specs.Whole.{asSpares, members, permutationHere}
+use Rattle.grammar.specs.Blocks.{blockOfItem}
+use Rattle.blocks.specs.Numbers.{block}
 use Rattle.elements.specs.Contract.{faultIn, Noted}
 use Rattle.items.specs.Notes.{MemberNotes, StarNotes, Says, GroupNotes, ItemNotes}
 use Rattle.items.proofs.ItemRecords.{permutation-opens}

@@ -13,7 +13,6 @@ use Rattle.grammar.specs.Read.{Read}
 use Rattle.grammar.specs.Template.{Group, Item}
 use Rattle.elements.specs.Contract.{faultIn, Noted, stopped, noted}
 use Rattle.elements.proofs.Unique.{noted-same}
-use Rattle.items.specs.Notes.{GroupNotes, ItemNotes}
 use Rattle.items.proofs.record.kind_at.Reads as kind-at
 use Rattle.items.proofs.record.kind_at.Kinds as kind-at-kinds
 use Rattle.items.proofs.record.bounds_fault.Reads as bounds-fault

@@ -15,7 +15,7 @@ use Rattle.format.specs.declared.Family.{Family}
 use Rattle.floats.specs.Leaves.{floatMatches}
 use Rattle.grammar.specs.Element.{Elem, leaf, Elems}
 use Rattle.grammar.specs.Record.{leafHere, head}
-use Rattle.grammar.specs.Leaf.{Leaf, leafHead}
+use Rattle.grammar.specs.Leaf.{Leaf}
 use Rattle.grammar.specs.Family.{LeafOf, leavesOf, ElementOf, testOf}
 use Rattle.grammar.specs.Read.{got}
 use Rattle.grammar.specs.Reading.{counted, many, elem}

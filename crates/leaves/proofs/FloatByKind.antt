@@ -1,6 +1,6 @@
 -- A 06 or 07 where it stands: which leaf it is, and its size. Assumes nothing.
 -- fits: it has a kind and a float. one-is, range-is: which leaf it is. size-is: how many bytes it has.
-use mathlib.Core.Path.{_≡_, refl, sym, ap, _∙_}
+use mathlib.Core.Path.{_≡_, sym, _∙_}
 use mathlib.Core.List.{List}
 use Prim.Native.Nat.{ℕ, _+_, _≤_, _<_}
 use native.Mathlib.Omega.{arith}

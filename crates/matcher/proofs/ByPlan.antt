@@ -9,10 +9,10 @@ use mathlib.Core.List.{List, [], _∷_}
 use Prim.Native.Nat.{ℕ, suc, _+_, _≤_, _<_}
 use native.Mathlib.Omega.{arith}
 use native.Mathlib.Nat.{zero-add}
-use borrow.Author.Tests.{le-leb, ltb-false}
-use lib.Dec.{leb, ltb}
+use borrow.Author.Tests.{le-leb}
+use lib.Dec.{leb}
 use lib.ListN.{length, getD, take}
-use Rattle.facts.proofs.Cases.{and-right, both, clash, by-test}
+use Rattle.facts.proofs.Cases.{and-right, both, clash}
 use Rattle.blocks.specs.declared.Block.{Block}
 use Rattle.blocks.specs.Numbers.{blockIn, blocksIn}
 use Rattle.obeying.proofs.Bodies.{first-block}
@@ -21,8 +21,8 @@ use Rattle.blocks.proofs.FirstLists.{best-same}
 use Rattle.grammar.specs.Element.{Elem}
 use Rattle.format.specs.declared.Family.{Family}
 use Rattle.grammar.specs.Family.{LeafOf, ElementOf, noElement, matchesOf}
-use Rattle.grammar.specs.Template.{Item, grouped, one, spares, permutation, Body, recordOf, setOf, superset, subset, Length, anyLength, between, Heads, Template, template, membersOfGroup, membersOfItem, membersOfItems, membersOf}
-use Rattle.grammar.specs.Read.{Read, refuse, got}
+use Rattle.grammar.specs.Template.{Item, grouped, one, spares, permutation, Body, recordOf, setOf, superset, subset, Length, anyLength, between, Heads, template, membersOfGroup, membersOfItem, membersOfItems, membersOf}
+use Rattle.grammar.specs.Read.{got}
 use Rattle.grammar.specs.Whole.{readTemplate}
 use Rattle.grammar.specs.Members.{memberHits}
 use Rattle.grammar.specs.Blocks.{blockOfGroup, blockOfItem, blocksOfItems, blocksOf, bodyKind, lowOf, highOf, Standing}

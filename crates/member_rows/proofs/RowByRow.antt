@@ -14,7 +14,6 @@ use mir.Syntax.{w32}
 use mir.Val.{toZ, ofZ, SFits}
 use mir.Facts.{toZ-ofZ}
 use Rattle.integers.specs.Integer.{Word}
-use Rattle.integers.proofs.SignedLocals.{again, again-same}
 use Rattle.facts.specs.Counting.{between}
 use Rattle.facts.proofs.Cases.{below, same?, clash, not-so}
 use Rattle.facts.proofs.Spans.{between-in, between-from, between-to, between-past}

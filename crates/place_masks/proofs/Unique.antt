@@ -1,12 +1,11 @@
 -- The contracts of the public functions allow one result each. Stated of the contracts themselves, as the check reads them. Assumes nothing.
-use mathlib.Core.Path.{_≡_, refl, sym, _∙_}
-use mathlib.Core.Bool.{Bool, true, false}
+use mathlib.Core.Path.{_≡_, sym, _∙_}
 use Prim.Native.Nat.{ℕ}
 use borrow.Fn.Kinds.{Dens, resT, endedOf}
 use contract.Lifetimes.{Lfts}
 use denote.Triple.Clauses.{AtExit}
 use Rattle.masks.specs.Masks.{bit}
-use Rattle.facts.proofs.Cases.{clash, not-so, same-test}
+use Rattle.facts.proofs.Cases.{same-test}
 use Rattle.masks.proofs.Masks.{bits-same, lowest-same, highest-same}
 use Rattle.place_masks.specs.Places.{Before, After}
 use Rattle.place_masks.proofs.up_to.Reads as up-to-reads

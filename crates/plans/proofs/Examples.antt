@@ -1,24 +1,21 @@
 -- The definitions on small examples: a length attribute, hours 0 to 23 and a set of {?, 1}, and bytes that are refused. Assumes nothing.
-use mathlib.Core.Path.{_≡_, refl}
-use mathlib.Core.Bool.{_||_, _&&_, cond}
-use mathlib.Core.List.{List, [], _∷_, _++_}
+use mathlib.Core.Path.{refl}
+use mathlib.Core.List.{List, [], _∷_}
 use Prim.Native.Nat.{ℕ}
 use native.Mathlib.Omega.{arith}
-use lib.Dec.{eqb}
-use lib.ListN.{length, take, replicate}
+use lib.ListN.{length, replicate}
 use Rattle.integers.specs.Integer.{signed, intAt}
-use Rattle.format.specs.Bounds.{badBounds}
 use Rattle.blocks.specs.Numbers.{numberOf, blockIn, numbersOf, blocksIn}
 use Rattle.format.specs.declared.Family.{Family}
 use Rattle.grammar.specs.Element.{leaf}
 use Rattle.grammar.specs.Leaf.{single, any, singleHead, leafHead, reaches, ofType}
 use Rattle.grammar.specs.Record.{countFault, boundsFault, typeFault, groupHead, head}
-use Rattle.grammar.specs.Read.{refuse, ended, mapRead, andThen}
+use Rattle.grammar.specs.Read.{ended, mapRead, andThen}
 use Rattle.grammar.specs.Reading.{uncounted, opened, elem}
 use Rattle.grammar.specs.Template.{noStar, grouped, setOf, between, membersOfGroup, membersOf}
 use Rattle.grammar.specs.Whole.{clashes, numbered, putMember, thenMembers, member, members, contents, bodyHere, lengthHere, typeHere, headsHere, templateHere, readTemplate}
-use Rattle.grammar.specs.Blocks.{blockOfGroup, blocksOf, bodyKind, StandsAt, Standing}
-use Rattle.plans.specs.Plans.{Planned, PlanOf, refusedPlan, aPlan}
+use Rattle.grammar.specs.Blocks.{blockOfGroup, blocksOf, bodyKind, Standing}
+use Rattle.plans.specs.Plans.{PlanOf, refusedPlan, aPlan}
 use Rattle.plans.specs.declared.Plan.{Plan}
 
 bytes : List ℕ

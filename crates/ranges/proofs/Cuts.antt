@@ -21,7 +21,7 @@ use Rattle.integers.proofs.SignedLocals.{lt-rank, ge-rank}
 use Rattle.ranges.specs.Spans.{Span, span, inSpan, holds, Ascending, lesser, larger, edges, cutTo}
 use Rattle.ranges.proofs.Ranked as ranked
 use Rattle.ranges.proofs.Ranked.{Range, range, inside, within}
-use Rattle.ranges.proofs.JoinsAndGaps.{ranks, Words, ranks-inj, holds-ranks, length-ranks, edges-ranks, words-of, true-of, low-up, to-rank, to-ranked, of-ranked, word-lesser, word-larger, rank-lesser, rank-larger, unique, ranks-drop, words-drop, none-before, none-after}
+use Rattle.ranges.proofs.JoinsAndGaps.{ranks, Words, holds-ranks, length-ranks, edges-ranks, words-of, true-of, low-up, to-rank, to-ranked, of-ranked, word-lesser, word-larger, rank-lesser, rank-larger, unique, ranks-drop, words-drop, none-before, none-after}
 
 -- ---- by the ranks
 

@@ -6,7 +6,7 @@ use mathlib.Core.Logic.{_⊎_, ⊎-elim}
 use mathlib.Core.Bool.{Bool, true, false}
 use mathlib.Core.List.{List}
 use Prim.Native.Nat.{ℕ, zero, suc, _+_, _-_, _/_, _%_, _^_, _≤_, _<_}
-use native.Mathlib.Nat.{mod-lt, mod-eq-of-lt, pow-suc}
+use native.Mathlib.Nat.{mod-lt, pow-suc}
 use native.Mathlib.Omega.{arith}
 use lib.Dec.{lit<}
 use lib.Count.{ones, ones-step}
@@ -15,7 +15,7 @@ use Rattle.facts.specs.Counting.{oneIf, count}
 use Rattle.masks.specs.Masks.{bit, Plus, Meets}
 use Rattle.rows.specs.Rows.{may}
 use Rattle.facts.proofs.Cases.{same?, below, clash, hit, miss, same-test}
-use Rattle.masks.proofs.Masks.{bit-half, bit-low, bit-none, bit-past, bit-inside}
+use Rattle.masks.proofs.Masks.{bit-half, bit-low, bit-none, bit-inside}
 use Rattle.rows.proofs.Rows.{row-may}
 use Rattle.facts.proofs.CountedSets.{count-same}
 use Rattle.reasons.proofs.Groups.{met, met-in, met-low, met-inv}

@@ -10,7 +10,7 @@ use lib.Dec.{eqb, ltb}
 use lib.ListN.{length, take, drop, length-append, length-take, length-drop}
 use lib.Seq.{take-at}
 use lib.IntN.{ℤ}
-use Rattle.facts.proofs.Cases.{by-test, and-left, and-right, one-of}
+use Rattle.facts.proofs.Cases.{and-left, and-right, one-of}
 use Rattle.format.specs.declared.Family.{Family}
 use Rattle.grammar.specs.Element.{Elem}
 use Rattle.grammar.specs.Family.{someOutside}

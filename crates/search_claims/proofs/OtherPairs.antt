@@ -10,9 +10,8 @@ use native.Mathlib.Omega.{arith}
 use lib.ListN.{length, getD, length-append, List·getD-append}
 use lib.Seq.{getD-append-add}
 use Rattle.facts.specs.Counting.{between}
-use Rattle.byte_order.specs.ByteOrder.{Joins}
 use Rattle.blocks.specs.declared.Block.{Block}
-use Rattle.blocks.specs.Pieces.{Takes, CutAt, Cuts}
+use Rattle.blocks.specs.Pieces.{Takes, Cuts}
 use Rattle.facts.proofs.Cases.{same?, below}
 use Rattle.blocks.proofs.Assignments.{takes-inv, takes-spare, takes-member}
 use Rattle.blocks.proofs.Cutting.{cuts-length}

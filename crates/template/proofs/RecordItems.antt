@@ -1,18 +1,18 @@
 -- The items of a record of, one after another, with the numbers of their blocks. Assumes nothing.
 use mathlib.Core.Path.{_≡_, refl, sym, ap, ap₂, _∙_, subst}
 use mathlib.Core.List.{List, [], _∷_, _++_, append-assoc, append-nil}
-use Prim.Native.Nat.{ℕ, zero, suc, _+_, _-_, _*_, _/_, _%_, _≤_, _<_}
+use Prim.Native.Nat.{ℕ, zero, suc, _+_, _-_, _*_, _≤_, _<_}
 use native.Mathlib.Omega.{arith}
 use lib.IntN.{ℤ}
 use lib.ListN.{length, drop, take, set, replicate, length-append}
 use lib.Seq.{set-at}
-use Rattle.grammar.specs.Template.{grouped, Item, one, spares, permutation, recordOf, membersOfGroup, membersOfItem, membersOfItems, membersOf}
+use Rattle.grammar.specs.Template.{grouped, Item, one, spares, permutation, membersOfGroup, membersOfItem, membersOfItems, membersOf}
 use Rattle.format.specs.declared.Family.{Family}
 use Rattle.grammar.specs.Family.{LeafOf, leavesIn}
 use Rattle.grammar.specs.Read.{Read, refuse, got}
 use Rattle.grammar.specs.Whole.{putItem, thenItems, item, items}
 use Rattle.grammar.specs.Blocks.{blockOfGroup, blockOfItem, blocksOfItems, blocksOf, bodyKind, Standing}
-use Rattle.blocks.specs.Numbers.{numberOf, blockIn, numbersOf, blocksIn}
+use Rattle.blocks.specs.Numbers.{blockIn, numbersOf, blocksIn}
 use Rattle.blocks.specs.declared.Block.{Block}
 use Rattle.blocks.proofs.BlockNumbers.{length-blocksIn, blocksIn-append}
 use Rattle.elements.specs.Contract.{faultIn, placeIn, countIn, Noted, stopped, noted}

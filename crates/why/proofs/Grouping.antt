@@ -17,7 +17,7 @@ use Rattle.grammar.specs.Element.{Elem}
 use Rattle.format.specs.declared.Family.{Family}
 use Rattle.grammar.specs.Family.{LeafOf, ElementOf, noElement, matchesOf}
 use Rattle.grammar.specs.Template.{Body, recordOf, setOf, superset, subset, Heads, Template, template, membersOf}
-use Rattle.grammar.specs.Read.{refuse, got}
+use Rattle.grammar.specs.Read.{got}
 use Rattle.grammar.specs.Whole.{readTemplate}
 use Rattle.grammar.specs.Blocks.{bodyKind, Standing}
 use Rattle.grammar.specs.Members.{memberHits}

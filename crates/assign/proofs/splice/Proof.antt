@@ -1,6 +1,6 @@
 -- `splice` meets its contract. The invariant: r has the bytes from .. e - 1 of a, and the others of b. The measure is what is left. Assumes nothing.
 use mathlib.Core.Path.{_≡_}
-use Prim.Native.Nat.{ℕ, _-_, _≤_}
+use Prim.Native.Nat.{_-_, _≤_}
 use native.Mathlib.Omega.{arith}
 use borrow.Author.Needs.{needs}
 use Rattle.assign.specs.Splice.{Spliced}

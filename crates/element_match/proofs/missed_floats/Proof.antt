@@ -1,5 +1,5 @@
 -- `element_match::missed_floats` meets its contract. The loop: `left` are still to be tested. The measure is how many they are. Assumes nothing.
-use mathlib.Core.Path.{_≡_, refl, sym, _∙_}
+use mathlib.Core.Path.{sym, _∙_}
 use mathlib.Core.Bool.{Bool}
 use mathlib.Core.List.{List}
 use Prim.Native.Nat.{ℕ, _<_}

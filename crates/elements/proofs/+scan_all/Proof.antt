@@ -11,7 +11,6 @@ use borrow.Author.Needs.{needs}
 use borrow.Fn.Kinds.{In}
 use borrow.Fn.PlainCycle.{Measures, is, falls, and}
 use lib.ListN.{length, getD, drop}
-use Rattle.format.specs.declared.Family.{Family}
 use Rattle.sorts.specs.declared.Sort.{Sort}
 use Rattle.sorts.specs.Sorts.{leavesFor}
 use Rattle.grammar.specs.Record.{head}

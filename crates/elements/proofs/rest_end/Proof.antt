@@ -2,7 +2,6 @@
 use mathlib.Core.Path.{sym, _∙_}
 use native.Mathlib.Omega.{arith}
 use borrow.Author.Tests.{not-true, not-false}
-use Rattle.sorts.specs.declared.Sort.{Sort}
 use Rattle.sorts.specs.Sorts.{leavesFor}
 use Rattle.elements.proofs.Scans.{head-some, group-fits, leaf-ended, group-stopped, group-ended}
 use Prim.Native.Nat.{_+_}

@@ -1,6 +1,6 @@
 -- `elements::scan_element` meets its contract. Assumes nothing.
 use native.Mathlib.Omega.{arith}
-use Rattle.grammar.specs.Reading.{uncounted, outermost, readElement}
+use Rattle.grammar.specs.Reading.{uncounted, readElement}
 use Rattle.elements.proofs.Scans.{head-stops, head-ended, noted-small}
 use Rattle.elements.proofs.WholeInputs.{too-long, answer-refused, answer-left-over, answer-accepted, uncounted-ended}
 use borrow.Author.Needs.{needs}

@@ -4,7 +4,6 @@ use mathlib.Core.Bool.{_||_}
 use lib.Signed.{ltZ}
 use Rattle.integers.proofs.SignedLocals.{again-same}
 use Rattle.sorts.specs.Sorts.{lowerOf, upperOf}
-use native.Mathlib.Omega.{arith}
 use Rattle.grammar.specs.Leaf.{leafHead}
 use Rattle.elements.proofs.Scans.{head-some}
 use Rattle.elements.proofs.TypedRecords.{typed-fault, typed-plain, leaf-here, typed-outside, typed-inside}

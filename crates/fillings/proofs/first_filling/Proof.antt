@@ -1,7 +1,6 @@
 -- `first_filling` meets its contract: with more elements than members there is none; else the first bytes of the first assignment with the pad.
 -- Assumes nothing.
 use native.Mathlib.Omega.{arith}
-use borrow.Author.Needs.{needs}
 use Rattle.fillings.proofs.Fillings.{filling-crowded, filling-answer}
 use Rattle.fillings.proofs.first_filling.Statement.{statement}
 use Rattle.fillings.proofs.first_filling.Tie as tie

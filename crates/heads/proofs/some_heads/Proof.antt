@@ -1,7 +1,5 @@
 -- `heads::some_heads` meets its contract: the length attribute, then the type. Assumes nothing.
-use mathlib.Core.Path.{sym, subst, _∙_}
-use native.Mathlib.Omega.{arith}
-use Rattle.format.specs.declared.Family.{Family}
+use mathlib.Core.Path.{sym, _∙_}
 use Rattle.heads.proofs.HeadRecords.{type-none, type-never, length-stops, length-ends, length-goes, length-inside, by-types}
 use borrow.Author.Needs.{needs}
 use Rattle.heads.proofs.some_heads.Statement.{statement}

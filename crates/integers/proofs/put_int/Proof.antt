@@ -5,7 +5,7 @@ use Prim.Native.Nat.{ℕ, _≤_}
 use Rattle.integers.proofs.SignedLocals.{again-same}
 use lib.ListN.{length, length-set, drop, set}
 use mathlib.Core.List.{List, [], _∷_, _++_}
-use mathlib.Core.Path.{_≡_, refl, sym, ap, _∙_}
+use mathlib.Core.Path.{_≡_, refl, ap, _∙_}
 use Rattle.integers.specs.Integer.{bits, intBytes, fourBytes}
 use Rattle.integers.proofs.put_int.Statement.{statement}
 use Rattle.integers.proofs.put_int.Tie as tie

@@ -1,5 +1,5 @@
 -- `integers::within` meets its contract: the tests are of what the machine reads back from the parameters' bits, which are the parameters. Assumes nothing.
-use mathlib.Core.Path.{_≡_, refl, sym, ap, _∙_}
+use mathlib.Core.Path.{_≡_, sym, _∙_}
 use mathlib.Core.Bool.{Bool, true, false, _&&_}
 use lib.IntN.{ℤ}
 use lib.Signed.{leZ}

@@ -1,13 +1,10 @@
 -- `matcher::match_planned` meets its contract: each test of the code is the next row of `matchAnswer`. Assumes nothing.
-use mathlib.Core.Path.{_≡_, refl, sym, subst}
-use mathlib.Core.Bool.{Bool, _&&_}
+use mathlib.Core.Path.{refl, sym, subst}
 use mathlib.Core.List.{List}
 use mathlib.Core.Logic.{⊎-elim}
 use Prim.Native.Nat.{ℕ, _+_, _≤_}
-use native.Mathlib.Omega.{arith}
 use borrow.Author.Needs.{needs}
 use borrow.Author.Tests.{not-true, not-false}
-use lib.Dec.{leb}
 use lib.ListN.{length, take}
 use Rattle.format.specs.declared.Family.{Family}
 use Rattle.grammar.specs.Element.{Elem}

@@ -1,6 +1,5 @@
 -- `member_rows::mark` meets its contract: a leaf by its kind, what has members by the mask of all elements. Assumes nothing.
 use mathlib.Core.Path.{_≡_}
-use mathlib.Core.List.{List}
 use Prim.Native.Nat.{ℕ, _+_, _≤_, _<_}
 use native.Mathlib.Omega.{arith}
 use lib.ListN.{length, getD}

@@ -1,7 +1,6 @@
 -- `ranges::holds` meets its contract. The invariant: none of the ranges before k holds x (`Seeking`). The measure is what is left of the ranges.
 -- Assumes nothing.
-use mathlib.Core.Path.{_≡_, sym, _∙_}
-use Prim.Native.Nat.{ℕ, _-_, _≤_}
+use Prim.Native.Nat.{_-_}
 use native.Mathlib.Omega.{arith}
 use native.Mathlib.Numerals.{add-one}
 use lib.IntN.{ℤ, pos}

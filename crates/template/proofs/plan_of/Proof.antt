@@ -6,7 +6,7 @@ use native.Mathlib.Omega.{arith}
 use borrow.Author.Tests.{lt-ltb, eq-eqb, ne-eqb}
 use Rattle.grammar.specs.Whole.{templateHere, readTemplate}
 use Rattle.grammar.specs.Blocks.{lowOf, highOf}
-use Rattle.elements.proofs.WholeInputs.{too-long, read-refused}
+use Rattle.elements.proofs.WholeInputs.{read-refused}
 use Rattle.plans.specs.Plans.{refusedPlan}
 use Rattle.template.specs.Bodies.{blockCount}
 use Rattle.template.proofs.Fronts.{Front, heads-refused, heads-inside, body-refused, front-of, front-sorted}

@@ -1,7 +1,7 @@
 -- `template::scan_template` meets its contract: the plan has the number. Assumes nothing.
 use mathlib.Core.Path.{_≡_, sym, ap, _∙_}
 use mathlib.Core.List.{List}
-use Prim.Native.Nat.{ℕ, _<_}
+use Prim.Native.Nat.{ℕ}
 use native.Mathlib.Omega.{arith}
 use Rattle.grammar.specs.Template.{template}
 use Rattle.format.specs.declared.Family.{Family}

@@ -1,5 +1,4 @@
 -- `items::group::integer_member_end` meets its contract. Assumes nothing.
-use Prim.Native.Nat.{_≤_}
 use mathlib.Core.Path.{refl}
 use Rattle.sorts.specs.Sorts.{whole}
 use Rattle.elements.proofs.TypedRecords.{sort-whole}

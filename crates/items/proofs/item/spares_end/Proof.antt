@@ -2,7 +2,7 @@
 use native.Mathlib.Omega.{arith}
 use Rattle.grammar.specs.Whole.{asSpares}
 use Rattle.elements.proofs.Scans.{noted-read}
-use Rattle.items.proofs.MemberPlaces.{map-noted, stopped-on, noted-told}
+use Rattle.items.proofs.MemberPlaces.{map-noted, stopped-on}
 use Rattle.items.proofs.Items.{spares-item}
 use borrow.Author.Needs.{needs}
 use Rattle.items.proofs.item.spares_end.Statement.{statement}

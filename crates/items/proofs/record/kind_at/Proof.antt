@@ -1,5 +1,5 @@
 -- `items::record::kind_at` meets its contract: past the end nothing is left. Assumes nothing.
-use mathlib.Core.Path.{_≡_, sym, ap, _∙_}
+use mathlib.Core.Path.{sym, ap}
 use mathlib.Core.List.{List}
 use Prim.Native.Nat.{ℕ}
 use lib.ListN.{getD, drop, drop-of-length-le}

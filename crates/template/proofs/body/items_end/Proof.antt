@@ -1,7 +1,7 @@
 -- `template::body::items_end` meets its contract. The loop: what the items from p on give, with the members, the blocks and the places so
 -- far, is what all of them give. The measure is the number of items left. Assumes nothing.
 use mathlib.Core.Path.{refl, ap}
-use Prim.Native.Nat.{ℕ, _+_, _-_}
+use Prim.Native.Nat.{_+_, _-_}
 use native.Mathlib.Omega.{arith}
 use Rattle.sorts.specs.Sorts.{familyOf, lowerOf, upperOf}
 use borrow.Author.Needs.{needs}
