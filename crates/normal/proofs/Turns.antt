@@ -17,7 +17,8 @@ use Rattle.grammar.specs.Element.{leaves}
 use Rattle.forms.proofs.Accepts.{elem-facts}
 use Rattle.leaves.specs.Leaves.{LeafHere, BoundsHere}
 use Rattle.leaves.proofs.ElementByKind as by-kind
-use Rattle.normal.specs.Contract.{placeIn, rangesIn, weight, Here, HereSet, AnySet, Room, MembersFrom, HereFrom, More, GatheredAll, GatheredHere}
+use Rattle.elements.specs.Contract.{placeIn, countIn}
+use Rattle.normal.specs.Contract.{weight, Here, HereSet, AnySet, Room, MembersFrom, HereFrom, More, GatheredAll, GatheredHere}
 use Rattle.normal.proofs.Walks.{group-fits, leaf-there, kind-most, leaf-here-set, list-here-set, group-few, complement-here-set, Chain, chain-start, chain-here, chain-here-leaves, chain-step, chain-end, chain-short}
 use Rattle.normal.proofs.Gathers.{packed, more-none, more-and, more-one, more-from, part-view, more-back}
 
@@ -27,23 +28,23 @@ use Rattle.normal.proofs.Gathers.{packed, more-none, more-and, more-one
 pub record Walking (t : List ℕ) (from n left : ℕ) (los₀ his₀ los his : List ℤ) (s m : ℕ) : Type 0 where
   pub found : List Span
   pub more : More from los₀ his₀ los his s found
-  pub chain : Chain t (placeIn from) n left (rangesIn from) found (placeIn s) m
+  pub chain : Chain t (placeIn from) n left (countIn from) found (placeIn s) m
 
 pub walking-start : (t : List ℕ) (from n left : ℕ) (los his : List ℤ) → MembersFrom t from n left los his → Walking t from n left los his los his from n
 walking-start t from n left los his h =
-    record { found = []; more = more-none from los his; chain = chain-start t (placeIn from) n left (rangesIn from) (h .members) (h .room .few) }
+    record { found = []; more = more-none from los his; chain = chain-start t (placeIn from) n left (countIn from) (h .members) (h .room .few) }
 
 module _ (t : List ℕ) (from n left : ℕ) (los₀ his₀ los his : List ℤ) (s m : ℕ) (g : Walking t from n left los₀ his₀ los his s m) where
   module _ (h : MembersFrom t from n left los₀ his₀) (b : 0 < m) where
     abbrev pub walking-here : Here t (placeIn s) left
-    walking-here = chain-here t (placeIn from) n left (rangesIn from) (g .found) (placeIn s) m b (g .chain)
+    walking-here = chain-here t (placeIn from) n left (countIn from) (g .found) (placeIn s) m b (g .chain)
 
     pub walking-room : Room t s (walking-here .leavesBefore) los his
     walking-room = record {
       short = h .room .short;
       sizeLow = g .more .sizeLow ∙ h .room .sizeLow;
       sizeHigh = g .more .sizeHigh ∙ h .room .sizeHigh;
-      few = omega (arith, g .more .count, g .chain .short, chain-here-leaves t (placeIn from) n left (rangesIn from) (g .found) (placeIn s) m b (g .chain));
+      few = omega (arith, g .more .count, g .chain .short, chain-here-leaves t (placeIn from) n left (countIn from) (g .found) (placeIn s) m b (g .chain));
     }
 
     -- a leaf more
@@ -55,23 +56,23 @@ module _ (t : List ℕ) (from n left : ℕ) (los₀ his₀ los his : List ℤ) (
         one : Ascending (span a b′ ∷ []) × HereSet t (placeIn s) left (holds (span a b′ ∷ [])) (weight (span a b′ ∷ [])) next
         one = leaf-here-set t (placeIn s) left (span a b′ ∷ []) a b′ next refl leaf-at low f
 
-        step : Chain t (placeIn from) n left (rangesIn from) (g .found ++ (span a b′ ∷ [])) next (m - 1)
-        step = chain-step t (placeIn from) n left (rangesIn from) (g .found) (placeIn s) m b (g .chain) (span a b′ ∷ []) next (proper-of (span a b′ ∷ []) (one .0)) (one .1)
+        step : Chain t (placeIn from) n left (countIn from) (g .found ++ (span a b′ ∷ [])) next (m - 1)
+        step = chain-step t (placeIn from) n left (countIn from) (g .found) (placeIn s) m b (g .chain) (span a b′ ∷ []) next (proper-of (span a b′ ∷ []) (one .0)) (one .1)
 
-        pub leaf-room : rangesIn s < 128
-        leaf-room = omega (arith, g .more .count, chain-short t (placeIn from) n left (rangesIn from) (g .found ++ (span a b′ ∷ [])) next (m - 1) step, length-append (g .found) (span a b′ ∷ []))
+        pub leaf-room : countIn s < 128
+        leaf-room = omega (arith, g .more .count, chain-short t (placeIn from) n left (countIn from) (g .found ++ (span a b′ ∷ [])) next (m - 1) step, length-append (g .found) (span a b′ ∷ []))
 
         pub next-short : next < 65536
         next-short = omega (arith, f .inside, h .room .short)
 
-        pub walking-leaf : Walking t from n left los₀ his₀ (set los (rangesIn s) a) (set his (rangesIn s) b′) ((rangesIn s + 1) * 65536 + next) (m - 1)
+        pub walking-leaf : Walking t from n left los₀ his₀ (set los (countIn s) a) (set his (countIn s) b′) ((countIn s + 1) * 65536 + next) (m - 1)
         walking-leaf =
-            let pack = packed (rangesIn s + 1) next next-short in
+            let pack = packed (countIn s + 1) next next-short in
             record {
               found = g .found ++ (span a b′ ∷ []);
-              more = more-and from s ((rangesIn s + 1) * 65536 + next) los₀ his₀ los his (set los (rangesIn s) a) (set his (rangesIn s) b′) (g .found) (span a b′ ∷ []) (g .more)
-                  (more-one s ((rangesIn s + 1) * 65536 + next) los his a b′ (omega (arith, leaf-room, walking-room .sizeLow)) (omega (arith, leaf-room, walking-room .sizeHigh)) (pack .0));
-              chain = subst (λ (p : ℕ). Chain t (placeIn from) n left (rangesIn from) (g .found ++ (span a b′ ∷ [])) p (m - 1)) (sym (pack .1)) step;
+              more = more-and from s ((countIn s + 1) * 65536 + next) los₀ his₀ los his (set los (countIn s) a) (set his (countIn s) b′) (g .found) (span a b′ ∷ []) (g .more)
+                  (more-one s ((countIn s + 1) * 65536 + next) los his a b′ (omega (arith, leaf-room, walking-room .sizeLow)) (omega (arith, leaf-room, walking-room .sizeHigh)) (pack .0));
+              chain = subst (λ (p : ℕ). Chain t (placeIn from) n left (countIn from) (g .found ++ (span a b′ ∷ [])) p (m - 1)) (sym (pack .1)) step;
             }
 
     -- a list or a complement more
@@ -79,7 +80,7 @@ module _ (t : List ℕ) (from n left : ℕ) (los₀ his₀ los his : List ℤ) (
     walking-call los′ his′ r w = record {
       found = g .found ++ w .found;
       more = more-and from s r los₀ his₀ los his los′ his′ (g .found) (w .found) (g .more) (w .more);
-      chain = chain-step t (placeIn from) n left (rangesIn from) (g .found) (placeIn s) m b (g .chain) (w .found) (placeIn r) (w .proper) (w .right);
+      chain = chain-step t (placeIn from) n left (countIn from) (g .found) (placeIn s) m b (g .chain) (w .found) (placeIn r) (w .proper) (w .right);
     }
 
   pub walking-end : m ≡ 0 → GatheredAll t from n left los₀ his₀ los his s
@@ -87,7 +88,7 @@ module _ (t : List ℕ) (from n left : ℕ) (los₀ his₀ los his : List ℤ) (
     found = g .found;
     proper = g .chain .proper;
     more = g .more;
-    right = chain-end t (placeIn from) n left (rangesIn from) (g .found) (placeIn s) m e (g .chain);
+    right = chain-end t (placeIn from) n left (countIn from) (g .found) (placeIn s) m e (g .chain);
   }
 
 -- ---- one with members
@@ -114,7 +115,7 @@ module _ (t : List ℕ) (from left : ℕ) (los his : List ℤ) (h : HereFrom t f
   pub next-place : placeIn (from + 2) ≡ at + 2
   next-place = omega (arith, members-fit .0, h .room .short)
 
-  pub same-ranges : rangesIn (from + 2) ≡ rangesIn from
+  pub same-ranges : countIn (from + 2) ≡ countIn from
   same-ranges = omega (arith, members-fit .0, h .room .short)
 
   pub members-from : MembersFrom t (from + 2) (getD t (at + 1) 0) (left - 1) los his
@@ -148,10 +149,10 @@ module _ (t : List ℕ) (from left : ℕ) (los his : List ℤ) (h : HereFrom t f
     list-gathered e = record { found = w .found; proper = w .proper; more = more; right = list-here-set t at left (holds (w .found)) (weight (w .found)) (placeIn r) e members-set }
 
     abbrev n : ℕ
-    n = rangesIn from
+    n = countIn from
 
     -- two ranges for each leaf at most
-    pub all-few : rangesIn r ≤ 128
+    pub all-few : countIn r ≤ 128
     all-few =
         let e = h .here in
         let c = elem-facts left (e .leavesBefore) (drop at t) (e .found) (e .after) (e .rest) (e .reads) in
@@ -164,12 +165,12 @@ module _ (t : List ℕ) (from left : ℕ) (los his : List ℤ) (h : HereFrom t f
     pub fits-high : n ≤ length his
     fits-high = omega (arith, h .room .few, h .room .sizeHigh, h .here .few)
 
-    pub own-ranges : view (rangesIn r - n) (take (length los₁ - n) (drop n los₁)) (take (length his₁ - n) (drop n his₁)) ≡ w .found
+    pub own-ranges : view (countIn r - n) (take (length los₁ - n) (drop n los₁)) (take (length his₁ - n) (drop n his₁)) ≡ w .found
     own-ranges = part-view from r los his los₁ his₁ (w .found) more fits-low fits-high
 
     pub complement-gathered : (los₂ his₂ : List ℤ) (g : ℕ) → (kind ≡ 4 → ⊥)
         → Became (take (length los₁ - n) (drop n los₁)) (take (length his₁ - n) (drop n his₁)) los₂ his₂ g
-        (gaps (joinAll (view (rangesIn r - n) (take (length los₁ - n) (drop n los₁)) (take (length his₁ - n) (drop n his₁))) []))
+        (gaps (joinAll (view (countIn r - n) (take (length los₁ - n) (drop n los₁)) (take (length his₁ - n) (drop n his₁))) []))
         → GatheredHere t from left los his (putMid n (length los₁ - n) los₁ los₂) (putMid n (length his₁ - n) his₁ his₂) ((n + g) * 65536 + placeIn r)
     complement-gathered los₂ his₂ g other b =
         let five : kind ≡ 5 = kinds (λ e. absurd (other e)) (λ e. e) in

@@ -13,7 +13,7 @@ use Rattle.integers.proofs.SignedLocals.{again-same}
 use Rattle.ranges.specs.Shown.{view}
 use Rattle.ranges.specs.Spans.{Span, Ascending, Proper, joinAll}
 use Rattle.ranges.proofs.JoinsAndGaps.{ascending-joined}
-use Rattle.normal.specs.Contract.{rangesIn}
+use Rattle.elements.specs.Contract.{countIn}
 use Rattle.normal.proofs.Answers.{accepted-plain, whole-from, whole-few, whole-joined, answer-form}
 use Rattle.normal.proofs.of_group.Statement.{statement}
 use Rattle.normal.proofs.of_group.Tie as tie
@@ -56,10 +56,10 @@ module _ (c : tie.After-set-of) where
   long-high : length his ≡ 130
   long-high = c .set-of .ensures .more .sizeHigh
 
-  few : rangesIn (c .set-of .result) ≤ 128
+  few : countIn (c .set-of .result) ≤ 128
   few = whole-few _ _ (plain s) _ _ _ _ _ (c .set-of .ensures)
 
-  gathered : Proper (view (rangesIn (c .set-of .result)) los his)
+  gathered : Proper (view (countIn (c .set-of .result)) los his)
   gathered = subst Proper (sym (c .set-of .ensures .more .ranges)) (c .set-of .ensures .proper)
 
 swept-requires : tie.Need-swept-requires

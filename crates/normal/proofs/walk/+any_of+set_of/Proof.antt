@@ -16,7 +16,8 @@ use Rattle.integers.specs.Integer.{Word}
 use Rattle.integers.proofs.SignedLocals.{again-same}
 use Rattle.ranges.specs.Shown.{view}
 use Rattle.ranges.specs.Spans.{Proper}
-use Rattle.normal.specs.Contract.{placeIn, rangesIn, HereFrom, MembersFrom, GatheredAll, GatheredHere}
+use Rattle.elements.specs.Contract.{placeIn, countIn}
+use Rattle.normal.specs.Contract.{HereFrom, MembersFrom, GatheredAll, GatheredHere}
 use Rattle.normal.proofs.Walks.{here-fits}
 use Rattle.normal.proofs.Gathers.{lent-length}
 use Rattle.normal.proofs.Turns.{Walking, walking-start, walking-here, walking-room, leaf-at, leaf-room, next-short, walking-leaf, walking-call, walking-end, members-fit, same-ranges, members-from, list-gathered, all-few, own-ranges, complement-gathered}
@@ -80,13 +81,13 @@ module _ (t : ℕ) (c : any-of-lts.After-bounds-at (any-of-calls t) (any-of-at t
   abbrev leaf-turn : any-of-lts.In-loop (any-of-calls t) (any-of-at t) any-of.Post any-of-Inv-loop any-of-μ-loop
   leaf-turn = c .before .before .before
 
-  room : rangesIn (leaf-turn .before .loop .s) < 128
+  room : countIn (leaf-turn .before .loop .s) < 128
   room = leaf-room _ _ _ _ _ _ _ _ _ _ (going t leaf-turn) (given t leaf-turn) (leaf-turn .loop-test .taken) (c .before .if1 .taken) _ _ _ (c .bounds-at .ensures)
 
-  low-room : rangesIn (leaf-turn .before .loop .s) < length (leaf-turn .before .loop .lo)
+  low-room : countIn (leaf-turn .before .loop .s) < length (leaf-turn .before .loop .lo)
   low-room = omega (arith, room, going t leaf-turn .more .sizeLow, given t leaf-turn .room .sizeLow)
 
-  high-room : rangesIn (leaf-turn .before .loop .s) < length (leaf-turn .before .loop .hi)
+  high-room : countIn (leaf-turn .before .loop .s) < length (leaf-turn .before .loop .hi)
   high-room = omega (arith, room, going t leaf-turn .more .sizeHigh, given t leaf-turn .room .sizeHigh)
 
   short : c .bounds-at .result .next < 65536
@@ -178,7 +179,7 @@ module _ (t : ℕ) (s : set-of-lts.Start (set-of-calls t) (set-of-at t) set-of.P
   fits = members-fit _ _ _ _ _ stands
 
   -- at most 64 leaves, so that the number is small
-  few : rangesIn from ≤ 128
+  few : countIn from ≤ 128
   few = omega (arith, stands .room .few, stands .here .few)
 
 set-of-add-any-of : (t : ℕ) → set-of-lts.Need-add-any-of (set-of-calls t) (set-of-at t) set-of.Post
@@ -215,7 +216,7 @@ module _ (t : ℕ) (c : set-of-lts.After-any-of (set-of-calls t) (set-of-at t) s
   gathered : GatheredAll (bytes t start) (from t start + 2) (getD (bytes t start) (placeIn (from t start) + 1) 0) (start .args .left - 1) (start .args .lo .now) (start .args .hi .now) los his (c .any-of .result)
   gathered = c .any-of .ensures
 
-  all-small : rangesIn (c .any-of .result) ≤ 128
+  all-small : countIn (c .any-of .result) ≤ 128
   all-small = all-few _ _ _ _ _ (stands t start) _ _ _ gathered
 
   low-long : length los ≡ 130
@@ -224,10 +225,10 @@ module _ (t : ℕ) (c : set-of-lts.After-any-of (set-of-calls t) (set-of-at t) s
   high-long : length his ≡ 130
   high-long = gathered .more .sizeHigh ∙ stands t start .room .sizeHigh
 
-  not-fewer : rangesIn (from t start) ≤ rangesIn (c .any-of .result)
+  not-fewer : countIn (from t start) ≤ countIn (c .any-of .result)
   not-fewer = omega (arith, gathered .more .count, same-ranges _ _ _ _ _ (stands t start))
 
-  own : view (rangesIn (c .any-of .result) - rangesIn (from t start)) (take (length los - rangesIn (from t start)) (drop (rangesIn (from t start)) los)) (take (length his - rangesIn (from t start)) (drop (rangesIn (from t start)) his)) ≡ gathered .found
+  own : view (countIn (c .any-of .result) - countIn (from t start)) (take (length los - countIn (from t start)) (drop (countIn (from t start)) los)) (take (length his - countIn (from t start)) (drop (countIn (from t start)) his)) ≡ gathered .found
   own = own-ranges _ _ _ _ _ (stands t start) _ _ _ gathered
 
 set-of-shared-slice-read-kind : (t : ℕ) → set-of-lts.Need-shared-slice-read-kind (set-of-calls t) (set-of-at t) set-of.Post
@@ -274,7 +275,7 @@ set-of-sub-left-out-3 t c = not-fewer t (c .before .before .before .before .befo
 set-of-left-out-requires : (t : ℕ) → set-of-lts.Need-left-out-requires (set-of-calls t) (set-of-at t) set-of.Post
 set-of-left-out-requires t c κs =
     let a = c .before .before .before .before .before .before in
-    let n = rangesIn (from t (start t a)) in (
+    let n = countIn (from t (start t a)) in (
       omega (arith, lent-length (los t a) n (omega (arith, few t (start t a), low-long t a)), low-long t a, all-small t a, not-fewer t a),
       omega (arith, lent-length (his t a) n (omega (arith, few t (start t a), high-long t a)), high-long t a, all-small t a, not-fewer t a),
       subst Proper (sym (own t a)) (gathered t a .proper),
@@ -285,14 +286,14 @@ module _ (t : ℕ) (c : set-of-lts.After-left-out (set-of-calls t) (set-of-at t)
   abbrev walked : set-of-lts.After-any-of (set-of-calls t) (set-of-at t) set-of.Post
   walked = c .before .before .before .before .before .before .before
 
-  most : rangesIn (from t (start t walked)) + c .left-out .result ≤ 130
+  most : countIn (from t (start t walked)) + c .left-out .result ≤ 130
   most =
-      omega (arith, c .left-out .ensures .fits .0, lent-length (los t walked) (rangesIn (from t (start t walked))) (omega (arith, few t (start t walked), low-long t walked)), low-long t walked, few t (start t walked))
+      omega (arith, c .left-out .ensures .fits .0, lent-length (los t walked) (countIn (from t (start t walked))) (omega (arith, few t (start t walked), low-long t walked)), low-long t walked, few t (start t walked))
 
   turned : GatheredHere (bytes t (start t walked)) (from t (start t walked)) (start t walked .args .left) (start t walked .args .lo .now) (start t walked .args .hi .now)
-      (putMid (rangesIn (from t (start t walked))) (length (los t walked) - rangesIn (from t (start t walked))) (los t walked) (c .left-out .last .0))
-      (putMid (rangesIn (from t (start t walked))) (length (his t walked) - rangesIn (from t (start t walked))) (his t walked) (c .left-out .last .1 .0))
-      ((rangesIn (from t (start t walked)) + c .left-out .result) * 65536 + placeIn (walked .any-of .result))
+      (putMid (countIn (from t (start t walked))) (length (los t walked) - countIn (from t (start t walked))) (los t walked) (c .left-out .last .0))
+      (putMid (countIn (from t (start t walked))) (length (his t walked) - countIn (from t (start t walked))) (his t walked) (c .left-out .last .1 .0))
+      ((countIn (from t (start t walked)) + c .left-out .result) * 65536 + placeIn (walked .any-of .result))
   turned =
       complement-gathered _ _ _ _ _ (stands t (start t walked)) _ _ _ (gathered t walked) (c .left-out .last .0) (c .left-out .last .1 .0) (c .left-out .result) (c .before .before .before .if1 .left)
       (c .left-out .ensures)
