@@ -1,7 +1,6 @@
 -- The judged examples that are marked P in `examples/judged.txt`, as one table under one statement: list rows and normal-form rows alike.
 -- Row         == what is given and what must come out: a template and a list of integers, the number and the room afterwards; or an element template and
 --                the bytes of its normal form
--- sameBytes a b == the bytes a are the bytes b
 -- gives g n after == the answer g is the number n and the room `after`
 -- forms g bytes == the answer g is 0, the length of the normal form `bytes`, and the room of 600 bytes with these in front, all others 165
 -- comesOut row == the definitions give what the row says. The room of a list is a byte longer than the list, that of a form 600 bytes, all 165; a form is that
@@ -10,25 +9,20 @@
 -- judged      == the table
 -- Assumes nothing: these are definitions.
 use mathlib.Core.List.{List, [], _∷_, _++_}
-use mathlib.Core.Bool.{Bool, true, false, _&&_}
+use mathlib.Core.Bool.{Bool, true, _&&_}
 use Prim.Native.Nat.{ℕ, suc, _-_}
 use lib.Dec.{eqb}
 use lib.ListN.{length, replicate}
 use lib.IntN.{ℤ, pos}
 use Rattle.format.specs.declared.Family.{Family}
 use Rattle.integers.specs.Integer.{least, greatest}
+use Rattle.facts.specs.SameLists.{sameBytes}
 use Rattle.matching.specs.Answer.{Given, given, matchAnswer}
 use Rattle.forms.specs.Answer.{Answer, answer, normalised}
 
 pub data Row : Type 0 where
   onList : List ℕ → List ℤ → ℕ → List ℕ → Row
   ofForm : List ℕ → List ℕ → Row
-
-unfoldable pub sameBytes : List ℕ → List ℕ → Bool
-sameBytes [] [] = true
-sameBytes [] (b ∷ w) = false
-sameBytes (a ∷ v) [] = false
-sameBytes (a ∷ v) (b ∷ w) = eqb a b && sameBytes v w
 
 unfoldable pub gives : Given → ℕ → List ℕ → Bool
 gives (given r room) n after = eqb r n && sameBytes room after

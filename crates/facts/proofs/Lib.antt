@@ -5,9 +5,11 @@
 -- CountedSets == sets of numbers counted, one against another
 -- Slices      == a piece of a list
 -- Puts        == an output that is written from the front on
+-- SameLists   == whether two lists of numbers are the same
 pub mod Cases
 pub mod Spans
 pub mod Counting
 pub mod CountedSets
 pub mod Slices
 pub mod Puts
+pub mod SameLists
