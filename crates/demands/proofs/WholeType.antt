@@ -14,18 +14,18 @@ use Rattle.grammar.specs.Reading.{readElement}
 use Rattle.grammar.proofs.RefusalNumbers.{Cases, isRefused, isRead, element-cases}
 use Rattle.grammar.proofs.TypedReading.{whole-read}
 use Rattle.ranges.specs.Spans.{Span, Ascending, gaps}
-use Rattle.ranges.proofs.JoinsAndGaps.{words-of, ascending-gaps}
+use Rattle.ranges.proofs.JoinsAndGaps.{proper-of, ascending-gaps}
 use Rattle.ranges.proofs.Cuts.{cut-whole}
 use Rattle.forms.specs.Form.{form, normalForm}
 use Rattle.forms.specs.Matched.{rangesOf}
-use Rattle.forms.specs.Answer.{placed, answerTo, normalised}
+use Rattle.forms.specs.Answer.{placed, readUnder, answerTo, normalised}
 use Rattle.forms.proofs.Accepts.{accepted-facts}
 use Rattle.forms.proofs.Sets.{elem-set}
 use Rattle.demands.specs.DocumentOne.{wholeForm, wholeAnswer, normalisedWhole}
 
 whole-form : (rs : List Span) → Ascending rs → form least greatest rs ≡ wholeForm rs
 unfolding form wholeForm
-whole-form rs f = rw (cut-whole rs (words-of rs f), cut-whole (gaps rs) (words-of (gaps rs) (ascending-gaps rs f)))
+whole-form rs f = rw (cut-whole rs (proper-of rs f), cut-whole (gaps rs) (proper-of (gaps rs) (ascending-gaps rs f)))
 
 long-read : (t : List ℕ) → ltb 4096 (length t) ≡ true → readElement leafHead t ≡ refuse 2
 unfolding readElement
@@ -33,7 +33,7 @@ long-read t e = rw e
 
 -- the bounds are in order
 after-length : (t room : List ℕ) → normalised least greatest t room ≡ answerTo least greatest (readElement leafHead t) room
-unfolding normalised answerTo
+unfolding normalised readUnder answerTo
 after-length t room =
     by-test (ltb 4096 (length t))
     (λ e. rw (e, long-read t e))

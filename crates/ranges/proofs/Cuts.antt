@@ -18,7 +18,7 @@ use Rattle.integers.specs.Integer.{Word, least, greatest}
 use Rattle.integers.specs.Rank.{rank}
 use Rattle.integers.proofs.Ranks.{low, rank-word, rank-inj, word-of, rank-next, rank-prev, word-next, word-prev, rank-ltZ, rank-leZ}
 use Rattle.integers.proofs.SignedLocals.{lt-rank, ge-rank}
-use Rattle.ranges.specs.Spans.{Span, span, inSpan, holds, Ascending, lesser, larger, edges, cutTo}
+use Rattle.ranges.specs.Spans.{Span, span, inSpan, holds, Ascending, Proper, lesser, larger, edges, cutTo}
 use Rattle.ranges.proofs.Ranked as ranked
 use Rattle.ranges.proofs.Ranked.{Range, range, inside, within}
 use Rattle.ranges.proofs.JoinsAndGaps.{ranks, Words, holds-ranks, length-ranks, edges-ranks, words-of, true-of, low-up, to-rank, to-ranked, of-ranked, word-lesser, word-larger, rank-lesser, rank-larger, unique, ranks-drop, words-drop, none-before, none-after}
@@ -252,15 +252,29 @@ module _ (lo hi : ℤ) (p : Word lo) (q : Word hi) where
         not-held (b +ℤ pos 1) (word-next b (w .1) less) (omega (arith, cut-order)) (omega arith)
         (none-after (cutTo lo hi rs) (ascending-cut rs o f) k a b ss e (rank-ltZ b greatest (w .1) (omega arith) ∙ lt-ltb (rank b) 4294967295 less))
 
--- ---- all 32-bit integers
+-- ---- ranges inside the type
 
-lesser-greatest : (b : ℤ) → Word b → lesser b greatest ≡ b
-lesser-greatest b w = rank-inj (lesser b greatest) b (low (lesser b greatest) (word-lesser b greatest w (omega arith))) (low b w) (omega (arith, rank-lesser b greatest w (omega arith), rank-word b w))
-
-pub cut-whole : (rs : List Span) → Words rs → cutTo least greatest rs ≡ rs
+-- nothing is cut of them
+pub cut-nothing : (lo hi : ℤ) (rs : List Span) → Word lo → Word hi → Proper rs → Among lo hi rs → cutTo lo hi rs ≡ rs
 unfolding cutTo
-cut-whole [] w = refl
-cut-whole (span a b ∷ rs) w =
-    let not-below : (z : ℤ) → Word z → ltZ z least ≡ false = λ z v. rank-ltZ z least v (omega arith) ∙ le-ltb (rank z) 0 (omega arith) in
-    let not-above : ltZ greatest a ≡ false = rank-ltZ greatest a (omega arith) (w .0) ∙ le-ltb 4294967295 (rank a) (omega (arith, rank-word a (w .0))) in
-    rw (not-below b (w .1), not-above, not-below a (w .0), lesser-greatest b (w .1), cut-whole rs (w .2))
+cut-nothing lo hi [] p q w m = refl
+cut-nothing lo hi (span a b ∷ rs) p q w m =
+    let bottom : rank lo ≤ rank a = ge-rank a lo (w .0) p (m .0) in
+    let top : rank b ≤ rank hi = ge-rank hi b q (w .1) (m .1) in
+    let order : rank a ≤ rank b = to-rank a b (low a (w .0)) (low b (w .1)) (w .2) in
+    let not-below : ltZ b lo ≡ false = rank-ltZ b lo (w .1) p ∙ le-ltb (rank b) (rank lo) (omega arith) in
+    let not-above : ltZ hi a ≡ false = rank-ltZ hi a q (w .0) ∙ le-ltb (rank hi) (rank a) (omega arith) in
+    let end : lesser b hi ≡ b = rank-inj (lesser b hi) b (low (lesser b hi) (word-lesser b hi (w .1) q)) (low b (w .1)) (omega (arith, rank-lesser b hi (w .1) q)) in
+    rw (not-below, not-above, m .0, end, cut-nothing lo hi rs p q (w .3) (m .2))
+
+-- all 32-bit integers
+among-whole : (rs : List Span) → Proper rs → Among least greatest rs
+among-whole [] w = tt
+among-whole (span a b ∷ rs) w = (
+  rank-ltZ a least (w .0) (omega arith) ∙ le-ltb (rank a) 0 (omega arith),
+  rank-ltZ greatest b (omega arith) (w .1) ∙ le-ltb 4294967295 (rank b) (omega (arith, rank-word b (w .1))),
+  among-whole rs (w .3),
+)
+
+pub cut-whole : (rs : List Span) → Proper rs → cutTo least greatest rs ≡ rs
+cut-whole rs w = cut-nothing least greatest rs (omega arith) (omega arith) w (among-whole rs w)

@@ -20,7 +20,6 @@ use Rattle.integers.specs.Integer.{Word, least, greatest}
 use Rattle.integers.proofs.SignedLocals.{num, again, again-same, least-yes, most-yes}
 use Rattle.ranges.specs.Shown.{view}
 use Rattle.ranges.specs.Spans.{Span, lesser, larger, cutTo}
-use Rattle.ranges.proofs.JoinsAndGaps.{words-proper}
 use Rattle.ranges.proofs.Cuts.{cut-whole}
 use Rattle.ranges.proofs.Cutting.{Cutting, cutting-start, step-out, step-cut, cutting-end}
 use Rattle.ranges.proofs.Views.{became}
@@ -41,7 +40,7 @@ returns c =
     let low-end : s .args .lower ≡ least = least-yes (s .args .lower) (s .fits .lower .sfits) (eqb-true (ofZ w32 (s .args .lower)) 2147483648 (and-left (eqb (ofZ w32 (s .args .lower)) 2147483648) _ test)) in
     let high-end : s .args .upper ≡ greatest = most-yes (s .args .upper) (s .fits .upper .sfits) (eqb-true (ofZ w32 (s .args .upper)) 2147483647 (and-right (eqb (ofZ w32 (s .args .lower)) 2147483648) _ test)) in
     let rs = view (s .args .n) (s .args .lo .now) (s .args .hi .now) in
-    became _ _ _ _ _ _ refl refl (s .pre .0) (s .pre .1) (sym (ap₂ (λ (l h : ℤ). cutTo l h rs) low-end high-end ∙ cut-whole rs (words-proper rs (s .pre .2))))
+    became _ _ _ _ _ _ refl refl (s .pre .0) (s .pre .1) (sym (ap₂ (λ (l h : ℤ). cutTo l h rs) low-end high-end ∙ cut-whole rs (s .pre .2)))
 
 loop-holds : tie.Need-loop-holds Inv-loop μ-loop
 loop-holds c = (refl, refl, cutting-start _ _ _ _ _ (c .before .pre .0) (c .before .pre .1))
