@@ -28,7 +28,7 @@ pub fn refused(number: u8) -> Normal
 }
 
 // The form that is written from n ranges. The room is looked at before the first byte is written.
-fn give(room: &mut [u8], outside: bool, lo: &[i32], hi: &[i32], n: usize) -> Normal
+pub fn give(room: &mut [u8], outside: bool, lo: &[i32], hi: &[i32], n: usize) -> Normal
     requires { ⌜ Few n (now lo) (now hi) ⌝ }
     ensures { λ r. ⌜ answer (r .number) (r .length) (now (room .exit)) ≡ placed (sideForm outside (view n (now (lo .entry)) (now (hi .entry)))) (now (room .entry)) ⌝ }
 {

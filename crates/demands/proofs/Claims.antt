@@ -35,9 +35,10 @@ use Rattle.matching.proofs.FirstWitness.{first-witness, none-witness, obeys-siz
 use Rattle.ranges.specs.Spans.{joinAll, join, gaps, gapsFrom, cutTo}
 use Rattle.forms.specs.Matched.{rangesOf}
 use Rattle.forms.specs.Form.{recordOf, records, matchedForm, unmatchedForm, form, normalForm}
-use Rattle.forms.specs.Answer.{answer, placed, answerTo, normalised}
+use Rattle.forms.specs.Answer.{answer, placed, readUnder, answerTo, normalised}
 use Rattle.forms.proofs.Accepts.{read-inv, typed-facts}
-use Rattle.demands.specs.Judged.{sameBytes, gives, forms, comesOut, allComeOut, judged}
+use Rattle.facts.specs.SameLists.{sameBytes}
+use Rattle.demands.specs.Judged.{gives, forms, comesOut, allComeOut, judged}
 use Rattle.demands.specs.NormalForms.{Accepted}
 use Rattle.demands.specs.Calls.{MatchCall, JudgeCall, NormalCall}
 use Rattle.demands.specs.Claims.{Accepts, Refused, Inside, RefusedBy, byLength, byBounds, byScan, Kept, ListRows, MatchGiven, JudgeGiven, NormalGiven, MatchedExactly, JudgedExactly, IsType, FormCall, FormOf, MaximalRanges, First, Second, Third, EveryInput, WholeType, JudgeAgrees, SomeIsMatched, AsJudged}
@@ -409,5 +410,5 @@ someIsMatched fam t xs w room after r j l c =
 -- ---- the table
 
 pub asJudged : AsJudged
-unfolding allComeOut comesOut gives forms sameBytes judged signed intAt intBytes between cnt allOnce membersOfGroup membersOfItem membersOfItems membersOf countFault boundsFault groupHead head singleHead rangeHead leafHead reaches ofType ended uncounted putFirst thenMore many closed tooDeep opened elem readElement mapRead starHere numbered putMember thenMembers thenStar putItem thenItems clashes member members permutationHere item items contents bodyHere lengthHere typeHere headsHere andThen templateHere readTemplate matchesBy leafMatches memberHits rightBytes noneTwice allSpare withinBlock starMet groupTakes itemTakes someCut cuts bodyMet lengthMet obeysBy put orElse tryEach firstOf from membersCount firstWitness written someOutside elementOutside matchRead matchAnswer joinAll join gaps gapsFrom cutTo rangesOf recordOf records matchedForm unmatchedForm form normalForm placed answerTo normalised
+unfolding allComeOut comesOut gives forms sameBytes judged signed intAt intBytes between cnt allOnce membersOfGroup membersOfItem membersOfItems membersOf countFault boundsFault groupHead head singleHead rangeHead leafHead reaches ofType ended uncounted putFirst thenMore many closed tooDeep opened elem readElement mapRead starHere numbered putMember thenMembers thenStar putItem thenItems clashes member members permutationHere item items contents bodyHere lengthHere typeHere headsHere andThen templateHere readTemplate matchesBy leafMatches memberHits rightBytes noneTwice allSpare withinBlock starMet groupTakes itemTakes someCut cuts bodyMet lengthMet obeysBy put orElse tryEach firstOf from membersCount firstWitness written someOutside elementOutside matchRead matchAnswer joinAll join gaps gapsFrom cutTo rangesOf recordOf records matchedForm unmatchedForm form normalForm placed readUnder answerTo normalised
 asJudged = refl

@@ -22,7 +22,7 @@ use Rattle.grammar.specs.Leaf.{Leaf, leafHead, typedHead}
 use Rattle.grammar.specs.Matches.{matches}
 use Rattle.grammar.proofs.TypedReading.{Inside}
 use Rattle.facts.proofs.Cases.{by-test, and-left, and-right}
-use Rattle.forms.specs.Answer.{answer, placed, answerTo, normalised}
+use Rattle.forms.specs.Answer.{answer, placed, readUnder, answerTo, normalised}
 use Rattle.demands.specs.NormalForms.{Accepted, SameIntegers}
 use Rattle.forms.specs.Form.{matchedForm, unmatchedForm, form, normalForm, formLength}
 use Rattle.forms.specs.Matched.{rangesOf, rangesIn}
@@ -147,7 +147,7 @@ module _ (lo hi : ℤ) (p : Word lo) (q : Word hi) (o : lo ≤ℤ hi) where
   -- a room that is long enough gets the form
   pub form-placed : (t : List ℕ) (e : Elem Leaf) (room : List ℕ) → Accepted lo hi t e → length (normalForm lo hi e) ≤ length room
       → normalised lo hi t room ≡ answer 0 (length (normalForm lo hi e)) (normalForm lo hi e ++ drop (length (normalForm lo hi e)) room)
-  unfolding normalised answerTo placed
+  unfolding normalised readUnder answerTo placed
   form-placed t e room a h =
       rw (le-ltb 4096 (length t) (read-inv (typedHead lo hi) t e a .small), not-after lo hi p q o, a, le-ltb (length room) (length (normalForm lo hi e)) h)
 

@@ -29,7 +29,7 @@ use Rattle.matching.specs.Answer.{given, orRefused, written, elementOutside, ma
 use Rattle.matching.proofs.Answers.{few-members, match-two, match-eleven, match-twelve, judge-two, judge-eleven, judge-thirteen, reads, judges}
 use Rattle.matching.proofs.FirstWitness.{first-witness, obeys-size}
 use Rattle.forms.specs.Form.{normalForm}
-use Rattle.forms.specs.Answer.{answer, placed, answerTo, normalised}
+use Rattle.forms.specs.Answer.{answer, placed, readUnder, answerTo, normalised}
 use Rattle.demands.specs.NormalForms.{Accepted}
 use Rattle.demands.specs.Claims.{Accepts, Refused, Inside, RefusedBy, byLength, byBounds, byScan}
 
@@ -137,7 +137,7 @@ pub data NormalOutcome (lo hi : ℤ) (t room : List ℕ) (n l : ℕ) (after : Li
       → NormalOutcome lo hi t room n l after
 
 pub normal-outcome : (lo hi : ℤ) (t room : List ℕ) (n l : ℕ) (after : List ℕ) → normalised lo hi t room ≡ answer n l after → NormalOutcome lo hi t room n l after
-unfolding normalised answerTo placed
+unfolding normalised readUnder answerTo placed
 normal-outcome lo hi t room n l after h =
     by-test (ltb 4096 (length t))
     (λ a. let e : answer n l after ≡ answer 2 0 room = sym h ∙ rw a in declined 2 (byLength (ltb-true 4096 (length t) a) refl) (inl (omega arith, omega arith)) (λ z. omega arith) (cc) (cc) (cc))

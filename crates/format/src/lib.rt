@@ -95,6 +95,8 @@ pub const OTHER_LENGTH: u8 = 13;
 
 pub const NOT_A_NUMBER: u8 = 14;
 
+pub const NO_NORMAL_FORM: u8 = 15;
+
 pub const LEAF_OUTSIDE: u8 = 16;
 
 pub const ELEMENT_OUTSIDE: u8 = 17;
@@ -119,6 +121,11 @@ pub const DEPTH_MOST: usize = 8;
 pub const MEMBERS_MOST: u8 = 32;
 
 pub const LAST_LEAF: usize = 63;
+
+// Of a normal form, and the bytes that it has at most.
+pub const FORM_LEAVES_MOST: usize = 64;
+
+pub const FORM_MOST: usize = 578;
 
 pub const LAST_MEMBER: usize = 31;
 

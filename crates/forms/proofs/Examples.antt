@@ -14,7 +14,7 @@ use Rattle.grammar.specs.Reading.{uncounted, putFirst, thenMore, many, closed, 
 use Rattle.ranges.specs.Spans.{join, joinAll, gapsFrom, gaps, cutTo}
 use Rattle.forms.specs.Matched.{rangesOf}
 use Rattle.forms.specs.Form.{recordOf, records, matchedForm, unmatchedForm, form, normalForm}
-use Rattle.forms.specs.Answer.{answer, placed, answerTo, normalised}
+use Rattle.forms.specs.Answer.{answer, placed, readUnder, answerTo, normalised}
 
 list : List (Elem Leaf) → Elems Leaf
 list [] = none
@@ -54,15 +54,15 @@ turned-twice = refl
 
 -- the whole answer: complement(?) in a room of 4 bytes, and of 2
 in-a-room : normalised least greatest (0x05 ∷ 0x01 ∷ 0x03 ∷ []) (9 ∷ 8 ∷ 7 ∷ 6 ∷ []) ≡ answer 0 3 (0x05 ∷ 0x01 ∷ 0x03 ∷ 6 ∷ [])
-unfolding normalised answerTo placed readElement ended uncounted elem opened closed many thenMore putFirst head leafHead ofType reaches groupHead countFault normalForm form matchedForm rangesOf joinAll join gaps gapsFrom cutTo
+unfolding normalised readUnder answerTo placed readElement ended uncounted elem opened closed many thenMore putFirst head leafHead ofType reaches groupHead countFault normalForm form matchedForm rangesOf joinAll join gaps gapsFrom cutTo
 in-a-room = refl
 
 too-short : normalised least greatest (0x05 ∷ 0x01 ∷ 0x03 ∷ []) (9 ∷ 8 ∷ []) ≡ answer 12 0 (9 ∷ 8 ∷ [])
-unfolding normalised answerTo placed readElement ended uncounted elem opened closed many thenMore putFirst head leafHead ofType reaches groupHead countFault normalForm form matchedForm rangesOf joinAll join gaps gapsFrom cutTo
+unfolding normalised readUnder answerTo placed readElement ended uncounted elem opened closed many thenMore putFirst head leafHead ofType reaches groupHead countFault normalForm form matchedForm rangesOf joinAll join gaps gapsFrom cutTo
 too-short = refl
 
 bytes-left : normalised least greatest (0x03 ∷ 0x03 ∷ []) [] ≡ answer 10 0 []
-unfolding normalised answerTo readElement ended uncounted elem opened head leafHead ofType reaches
+unfolding normalised readUnder answerTo readElement ended uncounted elem opened head leafHead ofType reaches
 bytes-left = refl
 
 -- ---- elements of a type
@@ -77,17 +77,17 @@ hours :
     × (normalised (pos 0) (pos 23) (0x05 ∷ 0x01 ∷ 0x02 ∷ 0 ∷ 0 ∷ 0 ∷ 0 ∷ 11 ∷ 0 ∷ 0 ∷ 0 ∷ []) room ≡ answer 0 9 (0x02 ∷ 12 ∷ 0 ∷ 0 ∷ 0 ∷ 23 ∷ 0 ∷ 0 ∷ 0 ∷ drop 9 room))
     × (normalised (pos 0) (pos 23) (0x02 ∷ 0 ∷ 0 ∷ 0 ∷ 128 ∷ 23 ∷ 0 ∷ 0 ∷ 0 ∷ []) room ≡ answer 16 0 room)
     × (normalised (pos 0) (pos 23) (0x05 ∷ 0x01 ∷ 0x03 ∷ []) room ≡ answer 0 3 (0x05 ∷ 0x01 ∷ 0x03 ∷ drop 3 room))
-unfolding normalised answerTo placed readElement ended uncounted elem opened closed many thenMore putFirst head leafHead rangeHead ofType reaches groupHead countFault intAt signed normalForm form matchedForm unmatchedForm records recordOf intBytes rangesOf joinAll join gaps gapsFrom cutTo room
+unfolding normalised readUnder answerTo placed readElement ended uncounted elem opened closed many thenMore putFirst head leafHead rangeHead ofType reaches groupHead countFault intAt signed normalForm form matchedForm unmatchedForm records recordOf intBytes rangesOf joinAll join gaps gapsFrom cutTo room
 hours = (refl, refl, refl, refl, refl)
 
 -- one integer: 7 is everything, and complement(7) is nothing
 one-integer :
     (normalised (pos 7) (pos 7) (0x01 ∷ 7 ∷ 0 ∷ 0 ∷ 0 ∷ []) room ≡ answer 0 1 (0x03 ∷ drop 1 room))
     × (normalised (pos 7) (pos 7) (0x05 ∷ 0x01 ∷ 0x01 ∷ 7 ∷ 0 ∷ 0 ∷ 0 ∷ []) room ≡ answer 0 3 (0x05 ∷ 0x01 ∷ 0x03 ∷ drop 3 room))
-unfolding normalised answerTo placed readElement ended uncounted elem opened closed many thenMore putFirst head leafHead singleHead ofType reaches groupHead countFault intAt signed normalForm form matchedForm unmatchedForm records recordOf intBytes rangesOf joinAll join gaps gapsFrom cutTo room
+unfolding normalised readUnder answerTo placed readElement ended uncounted elem opened closed many thenMore putFirst head leafHead singleHead ofType reaches groupHead countFault intAt signed normalForm form matchedForm unmatchedForm records recordOf intBytes rangesOf joinAll join gaps gapsFrom cutTo room
 one-integer = (refl, refl)
 
 -- reversed bounds are found before the first byte is read; bounds in order leave the empty input its own fault
 no-bytes : (normalised (pos 5) (pos 4) [] room ≡ answer 6 0 room) × (normalised (pos 4) (pos 5) [] room ≡ answer 3 0 room)
-unfolding normalised answerTo readElement ended uncounted elem opened head room
+unfolding normalised readUnder answerTo readElement ended uncounted elem opened head room
 no-bytes = (refl, refl)

@@ -1,6 +1,7 @@
 -- What the proofs of several functions use, and what other crates cite.
 -- Accepts  == what is known of an element template that was read
 -- Sets     == the ranges of an element template: what they hold, and how many they can be
+-- SameForms == ranges that hold the same integers of a type have the same form
 -- Lengths  == how many bytes a form has
 -- Readings == what the bytes of a form read as: an element template that matches what the ranges hold
 -- Records  == records written one after the other, and a form by the number of its ranges
@@ -8,6 +9,7 @@
 -- Examples == normal forms and answers, computed
 pub mod Accepts
 pub mod Sets
+pub mod SameForms
 pub mod Lengths
 pub mod Readings
 mod Records

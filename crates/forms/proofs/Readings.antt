@@ -180,7 +180,7 @@ records-read left k (span a b ∷ rs) s c p =
     let e : k + 1 + length rs ≡ k + suc (length rs) = omega arith in
     rw (append-assoc (recordOf (span a b)) (records rs) s, record-reads left k a b (records rs ++ s) (omega arith) (p .0) (p .1) (p .2), ih, e)
 
-head-group : (c : Bool) (n : ℕ) (s : List ℕ) → 1 ≤ n → n ≤ 64 → head leafHead (cond c 0x05 0x04 ∷ n ∷ s) ≡ group c n s
+pub head-group : (c : Bool) (n : ℕ) (s : List ℕ) → 1 ≤ n → n ≤ 64 → head leafHead (cond c 0x05 0x04 ∷ n ∷ s) ≡ group c n s
 unfolding head groupHead countFault
 head-group true n s p q = rw (ne-eqb (length (0x05 ∷ n ∷ s)) 0 (λ e. omega arith), le-ltb (length (0x05 ∷ n ∷ s)) 2 (omega arith), le-ltb n 1 p, le-ltb 64 n q)
 head-group false n s p q = rw (ne-eqb (length (0x04 ∷ n ∷ s)) 0 (λ e. omega arith), le-ltb (length (0x04 ∷ n ∷ s)) 2 (omega arith), le-ltb n 1 p, le-ltb 64 n q)
