@@ -4,7 +4,7 @@
 -- Outcomes    == each number of the matcher, the judge and the normaliser with what it was given for
 -- Claims      == the demands, the table and the other claims, proved
 pub mod Calls
-mod NormalForms
+pub mod NormalForms
 pub mod WholeType
 mod Outcomes
 pub mod Claims

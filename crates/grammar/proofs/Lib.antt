@@ -3,6 +3,7 @@
 -- RecordParts    == one record at a place: its kind, and the fault of its count
 -- ReadApart      == what was read, taken apart: the parts of an element template, and where they stand
 -- Deeper         == readings put together: more depths left, one reading after another, and how many bytes they take
+-- Growing        == what was read is read the same with any bytes behind it
 -- TypedReading   == readings with an element type and without one
 -- LeafBounds     == a leaf matches what lies between its bounds
 -- RefusalNumbers == which numbers a refusal can have
@@ -13,6 +14,7 @@ mod Examples
 pub mod RecordParts
 pub mod ReadApart
 pub mod Deeper
+pub mod Growing
 pub mod TypedReading
 pub mod LeafBounds
 pub mod RefusalNumbers
