@@ -1,8 +1,8 @@
 -- Laws of normal forms, of elements of the type from lo to hi. What carries them: the ranges of an element template hold what it matches (`Sets` of `forms`),
--- a set has one list of ascending ranges, cut to the type too, and the bytes of a form read as an element template of these ranges (`Readings` of `forms`).
+-- a set has one list of ascending ranges, cut to the type too, and the bytes of a form read as an element template of these ranges (`FormSides` of `forms`).
 -- Assumes nothing.
 use mathlib.Core.Path.{_≡_, sym, ap, _∙_, subst}
-use mathlib.Core.Bool.{true, false, not, _&&_, Bool·not-not}
+use mathlib.Core.Bool.{true, false, _&&_}
 use mathlib.Core.List.{List, _∷_, _++_}
 use Prim.Native.Nat.{ℕ, _*_, _≤_, _<_}
 use native.Mathlib.Omega.{arith}
@@ -11,29 +11,31 @@ use lib.Signed.{ltZ, leZ, _≤ℤ_, leZ-yes}
 use lib.Dec.{T}
 use lib.ListN.{length, drop}
 use borrow.Author.Tests.{le-ltb}
-use Rattle.ranges.specs.Spans.{Span, span, holds, Ascending, gaps, cutTo}
-use Rattle.ranges.proofs.JoinsAndGaps.{Words, of-rank, words-of, proper-of, words-drop, holds-gaps}
-use Rattle.ranges.proofs.Cuts.{among-cut, words-cut, holds-cut, holds-in-type, ascending-cut, word-between, none-before-cut, none-after-cut}
+use Rattle.ranges.specs.Spans.{Span, span, holds, Ascending, cutTo}
+use Rattle.ranges.proofs.JoinsAndGaps.{Words, words-of, proper-of, words-drop}
+use Rattle.ranges.proofs.Cuts.{words-cut, holds-cut, holds-in-type, ascending-cut, word-between, none-before-cut, none-after-cut}
 use Rattle.integers.specs.Integer.{Word}
-use Rattle.integers.proofs.Ranks.{low, rank-word, word-next, word-prev}
+use Rattle.integers.proofs.Ranks.{rank-word, word-next, word-prev}
 use Rattle.integers.proofs.SignedLocals.{lt-rank}
 use Rattle.grammar.specs.Element.{Elem, leaves}
 use Rattle.grammar.specs.Leaf.{Leaf, leafHead, typedHead}
 use Rattle.grammar.specs.Matches.{matches}
 use Rattle.grammar.proofs.TypedReading.{Inside}
-use Rattle.facts.proofs.Cases.{by-test, and-left, and-right}
+use Rattle.facts.proofs.Cases.{and-left, and-right}
 use Rattle.forms.specs.Answer.{answer, placed, readUnder, answerTo, normalised}
 use Rattle.demands.specs.NormalForms.{Accepted, SameIntegers}
-use Rattle.forms.specs.Form.{matchedForm, unmatchedForm, form, normalForm, formLength}
+use Rattle.forms.specs.Form.{sideForm, normalForm, sideRanges, formLength}
 use Rattle.forms.specs.Matched.{rangesOf, rangesIn}
 use Rattle.forms.proofs.Accepts.{Good, read-inv, read-of, typed-read, typed-facts}
-use Rattle.forms.proofs.Lengths.{length-matchedForm, length-unmatchedForm, length-form, matchedLength-most, unmatchedLength-most}
-use Rattle.forms.proofs.Readings.{matchedElem, unmatchedElem, matched-matches, unmatched-matches, matched-inside, unmatched-inside, matched-count, unmatched-count, not-after, ReadsAs, matched-reads, unmatched-reads}
-use Rattle.forms.proofs.Sets.{SetOf, gaps-set, elem-set, same-cut, cut-length}
+use Rattle.forms.proofs.FormSides.{form-side, sideElem, side-reads, side-inside, side-leaves, side-most, side as side-of-set}
+use Rattle.forms.proofs.Lengths.{length-form}
+use Rattle.forms.proofs.Readings.{not-after, ReadsAs}
+use Rattle.forms.proofs.SameForms.{same-forms}
+use Rattle.forms.proofs.Sets.{SetOf, elem-set}
 
--- ---- the two sides: a form is written from the ranges matched, or from those not matched
+-- ---- the form of e
 
--- the form of e, its element template, and what is known of the ranges that it is written from
+-- what it reads as, and how much it has
 pub record Side (lo hi : ℤ) (e : Elem Leaf) : Type 0 where
   pub what : Elem Leaf
   pub reads : ReadsAs (normalForm lo hi e) what
@@ -59,53 +61,24 @@ module _ (lo hi : ℤ) (p : Word lo) (q : Word hi) (o : lo ≤ℤ hi) where
     own : SetOf (rangesOf e) (matches e) (2 * leaves e)
     own = elem-set e g
 
-    others : SetOf (gaps (rangesOf e)) (λ x. not (matches e x)) (2 * leaves e)
-    others = gaps-set (rangesOf e) (matches e) (2 * leaves e) own
-
     module _ (some : 0 < leaves e) (most : leaves e ≤ 64) where
-      matched-side : holds (rangesOf e) lo ≡ false → Side lo hi e
-      unfolding normalForm form
-      matched-side h =
-          let all = rangesOf e in
-          let rs = cutTo lo hi all in
-          let w = words-of all (own .ascending) in
-          let n : length rs ≤ leaves e = cut-length lo hi p q all (matches e) (leaves e) own h in
-          let is : normalForm lo hi e ≡ matchedForm rs = rw h in
-          let proper = proper-of rs (ascending-cut lo hi p q all o (own .ascending)) in
-          record {
-            what = matchedElem rs;
-            reads = rw is (matched-reads rs (omega arith) proper);
-            inside = matched-inside lo hi rs proper (among-cut lo hi p q all w);
-            same = λ x a b.
-                let v = word-between lo hi x p q a b in
-                matched-matches rs x proper v ∙ holds-in-type lo hi p q all x w a b ∙ own .right x v;
-            count = matched-count rs (leaves e) some n;
-            size = rw is (omega (arith, length-matchedForm rs, matchedLength-most rs (omega arith)));
-          }
-
-      unmatched-side : holds (rangesOf e) lo ≡ true → Side lo hi e
-      unfolding normalForm form
-      unmatched-side h =
-          let all = gaps (rangesOf e) in
-          let rs = cutTo lo hi all in
-          let w = words-of all (others .ascending) in
-          let out : holds all lo ≡ false = holds-gaps (rangesOf e) (own .ascending) lo p ∙ ap not h in
-          let n : length rs ≤ leaves e = cut-length lo hi p q all (λ x. not (matches e x)) (leaves e) others out in
-          let is : normalForm lo hi e ≡ unmatchedForm rs = rw h in
-          let proper = proper-of rs (ascending-cut lo hi p q all o (others .ascending)) in
-          record {
-            what = unmatchedElem rs;
-            reads = rw is (unmatched-reads rs (omega arith) proper);
-            inside = unmatched-inside lo hi rs proper (among-cut lo hi p q all w);
-            same = λ x a b.
-                let v = word-between lo hi x p q a b in
-                unmatched-matches rs x proper v ∙ ap not (holds-in-type lo hi p q all x w a b ∙ others .right x v) ∙ Bool·not-not (matches e x);
-            count = unmatched-count rs (leaves e) some n;
-            size = rw is (omega (arith, length-unmatchedForm rs, unmatchedLength-most rs (omega arith)));
-          }
-
       side : Side lo hi e
-      side = by-test (holds (rangesOf e) lo) unmatched-side matched-side
+      unfolding normalForm
+      side =
+          let o₁ = holds (rangesOf e) lo in
+          let rs = sideRanges lo hi (rangesOf e) in
+          let d = side-of-set lo hi p q o (rangesOf e) (matches e) (leaves e) own in
+          let proper = proper-of rs (d .ascending) in
+          let few : length rs ≤ 64 = omega (arith, d .few) in
+          let is : normalForm lo hi e ≡ sideForm o₁ rs = form-side lo hi (rangesOf e) in
+          record {
+            what = sideElem o₁ rs;
+            reads = rw is (side-reads o₁ rs few proper);
+            inside = side-inside lo hi o₁ rs proper (d .among);
+            same = d .same;
+            count = omega (arith, side-leaves o₁ rs, d .few);
+            size = rw is (side-most o₁ rs few);
+          }
 
     -- ---- what a form is written from
 
@@ -151,16 +124,11 @@ module _ (lo hi : ℤ) (p : Word lo) (q : Word hi) (o : lo ≤ℤ hi) where
   form-placed t e room a h =
       rw (le-ltb 4096 (length t) (read-inv (typedHead lo hi) t e a .small), not-after lo hi p q o, a, le-ltb (length room) (length (normalForm lo hi e)) h)
 
-  same-form : (e e′ : Elem Leaf) → Good e → Good e′ → SameIntegers lo hi e e′ → normalForm lo hi e ≡ normalForm lo hi e′
-  unfolding normalForm form
+  pub same-form : (e e′ : Elem Leaf) → Good e → Good e′ → SameIntegers lo hi e e′ → normalForm lo hi e ≡ normalForm lo hi e′
+  unfolding normalForm
   same-form e e′ g g′ h =
-      let here : lo ≤ℤ lo = of-rank lo lo (low lo p) (low lo p) (omega arith) in
-      let side-same : holds (rangesOf e) lo ≡ holds (rangesOf e′) lo = own e g .right lo p ∙ h lo here o ∙ sym (own e′ g′ .right lo p) in
-      let matched-same : cutTo lo hi (rangesOf e) ≡ cutTo lo hi (rangesOf e′) =
-      same-cut lo hi p q (rangesOf e) (rangesOf e′) (matches e) (matches e′) (2 * leaves e) (2 * leaves e′) o (own e g) (own e′ g′) h in
-      let unmatched-same : cutTo lo hi (gaps (rangesOf e)) ≡ cutTo lo hi (gaps (rangesOf e′)) =
-      same-cut lo hi p q (gaps (rangesOf e)) (gaps (rangesOf e′)) (λ x. not (matches e x)) (λ x. not (matches e′ x)) (2 * leaves e) (2 * leaves e′) o (others e g) (others e′ g′) (λ x a b. ap not (h x a b)) in
-      rw (side-same, matched-same, unmatched-same)
+      same-forms lo hi p q o (rangesOf e) (rangesOf e′) (own e g .ascending) (own e′ g′ .ascending)
+      (λ x a b. let w = word-between lo hi x p q a b in own e g .right x w ∙ h x a b ∙ sym (own e′ g′ .right x w))
 
   module _ (t : List ℕ) (e : Elem Leaf) (a : Accepted lo hi t e) where
     module _ (t′ : List ℕ) (e′ : Elem Leaf) (a′ : Accepted lo hi t′ e′) where

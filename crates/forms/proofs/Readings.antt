@@ -3,7 +3,7 @@
 use mathlib.Core.Path.{_≡_, refl, sym, ap, ap₂, _∙_}
 use mathlib.Core.Bool.{Bool, true, false, not, cond, _&&_, _||_, or-false}
 use mathlib.Core.List.{List, [], _∷_, _++_, append-assoc, append-nil}
-use Prim.Native.Nat.{ℕ, suc, _+_, _≤_, _<_}
+use Prim.Native.Nat.{ℕ, suc, _+_, _≤_, max}
 use native.Mathlib.Omega.{arith}
 use lib.Dec.{ltb, eqb}
 use lib.IntN.{ℤ}
@@ -114,16 +114,16 @@ unfolding leaves
 leavesOf-count [] = refl
 leavesOf-count (r ∷ rs) = omega (arith, leavesOf-count rs)
 
-pub matched-count : (rs : List Span) (c : ℕ) → 0 < c → length rs ≤ c → leaves (matchedElem rs) ≤ c
+pub matched-leaves : (rs : List Span) → leaves (matchedElem rs) ≡ max 1 (length rs)
 unfolding leaves
-matched-count [] c p q = p
-matched-count (r ∷ []) c p q = p
-matched-count (r ∷ s ∷ rs) c p q = omega (arith, leavesOf-count (r ∷ s ∷ rs))
+matched-leaves [] = refl
+matched-leaves (r ∷ []) = refl
+matched-leaves (r ∷ s ∷ rs) = omega (arith, leavesOf-count (r ∷ s ∷ rs))
 
-pub unmatched-count : (rs : List Span) (c : ℕ) → 0 < c → length rs ≤ c → leaves (unmatchedElem rs) ≤ c
+pub unmatched-leaves : (rs : List Span) → leaves (unmatchedElem rs) ≡ max 1 (length rs)
 unfolding leaves
-unmatched-count [] c p q = p
-unmatched-count (r ∷ rs) c p q = omega (arith, leavesOf-count (r ∷ rs))
+unmatched-leaves [] = refl
+unmatched-leaves (r ∷ rs) = omega (arith, leavesOf-count (r ∷ rs))
 
 -- ---- its bytes read as it
 

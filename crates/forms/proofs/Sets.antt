@@ -10,7 +10,7 @@ use lib.Signed.{leZ, _≤ℤ_}
 use lib.ListN.{length}
 use Rattle.ranges.specs.Spans.{Span, span, holds, Ascending, joinAll, gaps, edges, cutTo}
 use Rattle.ranges.proofs.JoinsAndGaps.{of-rank, ascending-joined, holds-joined, edges-joined, proper-of, holds-gaps, ascending-gaps, edges-gaps}
-use Rattle.ranges.proofs.Cuts.{word-between, unique-cut, length-cut-edges}
+use Rattle.ranges.proofs.Cuts.{length-cut-edges}
 use Rattle.grammar.specs.Element.{Elem, leaf, oneOf, noneOf, Elems, none, more, leaves, leavesAll}
 use Rattle.grammar.specs.Leaf.{Leaf, single, range, any, lowerOf, upperOf}
 use Rattle.grammar.specs.Matches.{matchesBy, leafMatches, matches, anyMatches}
@@ -91,14 +91,9 @@ mutual
       let s = join-set (rangesOf e) (rangesOfAll es) (matches e) (anyMatches es) (2 * leaves e) (2 * leavesAll es) (elem-set e (g .0)) (all-set es (g .1)) in
       record { ascending = s .ascending; right = s .right; few = omega (arith, s .few) }
 
--- ---- cut to a type: a set has one list of ranges, and it is not long
+-- ---- cut to a type: it is not long
 
 module _ (lo hi : ℤ) (p : Word lo) (q : Word hi) where
-  pub same-cut : (rs ss : List Span) (f g : ℤ → Bool) (c d : ℕ) → lo ≤ℤ hi → SetOf rs f c → SetOf ss g d → ((x : ℤ) → lo ≤ℤ x → x ≤ℤ hi → f x ≡ g x) → cutTo lo hi rs ≡ cutTo lo hi ss
-  same-cut rs ss f g c d o s t e =
-      unique-cut lo hi p q rs ss o (s .ascending) (t .ascending)
-      (λ x a b. let w = word-between lo hi x p q a b in s .right x w ∙ e x a b ∙ sym (t .right x w))
-
   -- where the lower bound is not held
   pub cut-length : (rs : List Span) (f : ℤ → Bool) (c : ℕ) → SetOf rs f (2 * c) → holds rs lo ≡ false → length (cutTo lo hi rs) ≤ c
   cut-length rs f c s e = omega (arith, length-cut-edges lo hi p q rs (s .ascending) e, s .few)

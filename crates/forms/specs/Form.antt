@@ -6,10 +6,12 @@
 -- sideForm outside rs == the one or the other: from the integers not matched, or from those matched
 -- form lo hi rs    == the form of what the set whose maximal ranges are rs holds of the type from lo to hi
 -- normalForm lo hi e == the normal form of the element template e, whose elements are of the type from lo to hi
+-- sideRanges lo hi rs == the ranges that this form is written from: those not matched where it holds the lower bound, else those matched
+-- formLeaves lo hi rs == how many leaves it has: one for each of these, and one for everything and for nothing
 -- recordLength r, recordsLength rs, matchedLength rs, unmatchedLength rs, sideLength outside rs, formLength lo hi rs ==
 --                     how many bytes each has
 -- Assumes nothing: these are definitions.
-use Prim.Native.Nat.{ℕ, _+_}
+use Prim.Native.Nat.{ℕ, _+_, max}
 use mathlib.Core.List.{List, [], _∷_, _++_}
 use mathlib.Core.Bool.{Bool, true, false, cond}
 use lib.IntN.{ℤ}
@@ -49,6 +51,12 @@ form lo hi rs = cond (holds rs lo) (unmatchedForm (cutTo lo hi (gaps rs))) (matc
 
 unfoldable pub normalForm : ℤ → ℤ → Elem Leaf → List ℕ
 normalForm lo hi e = form lo hi (rangesOf e)
+
+unfoldable pub sideRanges : ℤ → ℤ → List Span → List Span
+sideRanges lo hi rs = cond (holds rs lo) (cutTo lo hi (gaps rs)) (cutTo lo hi rs)
+
+unfoldable pub formLeaves : ℤ → ℤ → List Span → ℕ
+formLeaves lo hi rs = max 1 (length (sideRanges lo hi rs))
 
 -- "The length is 1 for everything, 3 for nothing, otherwise 5 for each single plus 9 for each wider range, and 2 for a 04 or 05."
 abbrev pub recordLength : Span → ℕ

@@ -1,13 +1,13 @@
--- What the proofs of several functions use.
--- Mixtures == ranges of two sets, mixed turn by turn
--- Betweens == the ranges that a normal form may be written from
+-- What the proofs of several functions use, and what other crates cite.
+-- Mixtures   == ranges of two sets, mixed turn by turn
+-- Sides      == what a form leaves out, and the form of what leaves out given ranges
+-- Betweens   == the ranges that a normal form may be written from
 -- WholeForms == normal forms as bytes, and the ranges that they are written from
--- Meetings == the meeting by sides and ranges is the meeting of the definition
--- Sides    == what a form leaves out, and the form of what leaves out given ranges
--- Unique   == the promise of `meeting` allows one result only
+-- Meetings   == the meeting by sides and ranges is the meeting of the definition
+-- Unique     == the promise of `meeting` allows one result only
 mod Mixtures
-mod Betweens
-mod WholeForms
-mod Meetings
-pub mod Unique
 mod Sides
+mod Betweens
+pub mod WholeForms
+pub mod Meetings
+pub mod Unique

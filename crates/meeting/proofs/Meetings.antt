@@ -23,17 +23,18 @@ use Rattle.ranges.specs.Shown.{view}
 use Rattle.ranges.proofs.JoinsAndGaps.{proper-of, proper-append, holds-append, holds-gaps, ascending-gaps, ascending-joined, holds-joined}
 use Rattle.ranges.proofs.Cuts.{word-between}
 use Rattle.forms.specs.Matched.{rangesOf}
-use Rattle.forms.specs.Form.{sideForm, form, normalForm}
+use Rattle.forms.specs.Form.{sideForm, form, normalForm, sideRanges, formLeaves}
 use Rattle.forms.specs.Answer.{answer, placed, readUnder}
 use Rattle.forms.proofs.Accepts.{Good, typed-facts, ordered}
-use Rattle.forms.proofs.SameForms.{same-side, same-matched, same-unmatched, same-forms}
+use Rattle.forms.proofs.FormSides.{sideElem}
+use Rattle.forms.proofs.SameForms.{same-sides, same-forms}
 use Rattle.forms.proofs.Sets.{elem-set}
 use Rattle.form_reader.specs.FormRead.{WrittenFrom, FormRead, isForm as readsAsForm, noForm}
 use Rattle.meeting.specs.Contract.{Held, gapsUnless, notInBoth, writtenFrom, faultOf}
-use Rattle.meeting.specs.Meeting.{both, sideRanges, formLeaves, isForm, met, meetRead, meetingOf}
+use Rattle.meeting.specs.Meeting.{both, isForm, met, meetRead, meetingOf}
 use Rattle.meeting.proofs.Betweens.{between-ascending, between-lower}
 use Rattle.meeting.proofs.Sides.{ascending-unless}
-use Rattle.meeting.proofs.WholeForms.{Under, refusedUnder, readAs, under, sideElem, form-reads, form-under, leaves-out, form-is, form-written, gaps-gaps}
+use Rattle.meeting.proofs.WholeForms.{Under, refusedUnder, readAs, under, form-reads, form-under, leaves-out, form-is, form-written, gaps-gaps}
 
 -- ---- what both match
 
@@ -61,7 +62,7 @@ over-64 n = same-ltb 64 (max 1 n) 64 n (λ h. omega arith) (λ h. omega arith)
 -- the ranges that a form is written from, and its bytes, where the side is known
 side-of-gaps : (lo hi : ℤ) (o : Bool) (us : List Span) → Ascending us → holds (gaps us) lo ≡ o
     → (sideRanges lo hi (gaps us) ≡ cutTo lo hi (gapsUnless o us)) × (form lo hi (gaps us) ≡ sideForm o (cutTo lo hi (gapsUnless o us)))
-unfolding form
+unfolding form sideRanges
 side-of-gaps lo hi true us f h = (rw (h, gaps-gaps us f), rw (h, gaps-gaps us f))
 side-of-gaps lo hi false us f h = (rw h, rw h)
 
@@ -128,12 +129,7 @@ module _ (lo hi : ℤ) (p : Word lo) (q : Word hi) (o : lo ≤ℤ hi) where
     left-ascending = ascending-gaps us ascending-out
 
     ranges-same : sideRanges lo hi all ≡ cutTo lo hi (gapsUnless (o₁ && o₂) us)
-    ranges-same =
-        rw (
-          same-side lo hi p q o all (gaps us) all-ascending left-ascending same-of-type,
-          same-matched lo hi p q o all (gaps us) all-ascending left-ascending same-of-type,
-          same-unmatched lo hi p q o all (gaps us) all-ascending left-ascending same-of-type,
-        ) (side-of-gaps lo hi (o₁ && o₂) us ascending-out lower-side .0)
+    ranges-same = same-sides lo hi p q o all (gaps us) all-ascending left-ascending same-of-type ∙ side-of-gaps lo hi (o₁ && o₂) us ascending-out lower-side .0
 
     form-same : normalForm lo hi (both a b) ≡ sideForm (o₁ && o₂) (cutTo lo hi (gapsUnless (o₁ && o₂) us))
     unfolding normalForm

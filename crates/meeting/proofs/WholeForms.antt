@@ -1,17 +1,16 @@
 -- Normal forms as bytes: what is written from ranges as `Between` asks is the normal form of what it reads as, and every normal form is written so. Assumes
 -- nothing.
--- sideElem outside rs == the element template that the form written from rs reads as
 -- Under lo hi t <-> the bytes t are refused under the type, or are read, and then its bounds are in order
-use mathlib.Core.Path.{_≡_, refl, sym, ap, _∙_, subst}
-use mathlib.Core.Bool.{Bool, true, false, not, cond, Bool·not-not}
+use mathlib.Core.Path.{_≡_, sym, ap, _∙_}
+use mathlib.Core.Bool.{Bool, true, false, not, Bool·not-not}
 use mathlib.Core.List.{List, [], _++_}
-use Prim.Native.Nat.{ℕ, _*_, _≤_, _<_}
+use Prim.Native.Nat.{ℕ, _≤_, _<_}
 use native.Mathlib.Omega.{arith}
 use lib.Dec.{ltb}
 use lib.IntN.{ℤ}
 use lib.Signed.{ltZ, _≤ℤ_}
 use lib.ListN.{length, drop}
-use borrow.Author.Tests.{ltb-false, le-ltb}
+use borrow.Author.Tests.{le-ltb}
 use Rattle.facts.proofs.Cases.{by-test}
 use Rattle.integers.specs.Integer.{Word}
 use Rattle.grammar.specs.Element.{Elem, leaves}
@@ -20,21 +19,19 @@ use Rattle.grammar.specs.Matches.{matches}
 use Rattle.grammar.specs.Read.{refuse, got}
 use Rattle.grammar.specs.Reading.{readElement}
 use Rattle.grammar.proofs.RefusalNumbers.{Cases, isRefused, isRead, element-cases}
-use Rattle.grammar.proofs.TypedReading.{Inside}
-use Rattle.ranges.specs.Spans.{Span, holds, Ascending, Proper, gaps, cutTo}
-use Rattle.ranges.proofs.JoinsAndGaps.{proper-of, words-of, holds-gaps, ascending-gaps, unique}
-use Rattle.ranges.proofs.Cuts.{Among, word-between, holds-in-type, ascending-cut, among-cut, cut-nothing}
+use Rattle.ranges.specs.Spans.{Span, holds, Ascending, gaps}
+use Rattle.ranges.proofs.JoinsAndGaps.{proper-of, holds-gaps, ascending-gaps, unique}
+use Rattle.ranges.proofs.Cuts.{Among, word-between, cut-nothing}
 use Rattle.forms.specs.Matched.{rangesOf}
-use Rattle.forms.specs.Form.{matchedForm, unmatchedForm, sideForm, form, normalForm, sideLength}
+use Rattle.forms.specs.Form.{sideForm, form, normalForm, sideRanges}
 use Rattle.forms.specs.Answer.{answer, placed, readUnder, answerTo, normalised}
 use Rattle.forms.proofs.Accepts.{Good, ordered, read-inv, read-of, typed-read, typed-facts}
-use Rattle.forms.proofs.Lengths.{length-sideForm, matchedLength-most, unmatchedLength-most}
-use Rattle.forms.proofs.Readings.{matchedElem, unmatchedElem, matched-matches, unmatched-matches, matched-inside, unmatched-inside, not-after, ReadsAs, matched-reads, unmatched-reads}
-use Rattle.forms.proofs.SameForms.{lower-in-type, same-forms}
-use Rattle.forms.proofs.Sets.{SetOf, gaps-set, elem-set, cut-length}
-use Rattle.form_reader.specs.FormRead.{Between, WrittenFrom}
+use Rattle.forms.proofs.FormSides.{form-side, sideElem, side-reads, side-inside, side-most, side}
+use Rattle.forms.proofs.Readings.{matchedElem, unmatchedElem, matched-matches, unmatched-matches, not-after}
+use Rattle.forms.proofs.SameForms.{same-forms}
+use Rattle.forms.proofs.Sets.{elem-set}
+use Rattle.form_reader.specs.FormRead.{WrittenFrom}
 use Rattle.meeting.specs.Contract.{gapsUnless, faultOf}
-use Rattle.meeting.specs.Meeting.{sideRanges}
 use Rattle.meeting.proofs.Betweens.{between-ascending, between-among, between-lower, between-of}
 
 -- ---- bytes under a type
@@ -57,22 +54,6 @@ under lo hi t =
     go a b (isRead e q) = readAs e (rw (a, b, q)) q b
 
 -- ---- the form that is written from ranges
-
-abbrev pub sideElem : Bool → List Span → Elem Leaf
-sideElem true rs = unmatchedElem rs
-sideElem false rs = matchedElem rs
-
-side-reads : (o : Bool) (rs : List Span) → length rs ≤ 64 → Proper rs → ReadsAs (sideForm o rs) (sideElem o rs)
-side-reads true rs = unmatched-reads rs
-side-reads false rs = matched-reads rs
-
-side-inside : (lo hi : ℤ) (o : Bool) (rs : List Span) → Proper rs → Among lo hi rs → Inside lo hi (sideElem o rs)
-side-inside lo hi true rs = unmatched-inside lo hi rs
-side-inside lo hi false rs = matched-inside lo hi rs
-
-pub side-most : (o : Bool) (rs : List Span) → length rs ≤ 64 → length (sideForm o rs) ≤ 578
-side-most true rs h = omega (arith, length-sideForm true rs, unmatchedLength-most rs h)
-side-most false rs h = omega (arith, length-sideForm false rs, matchedLength-most rs h)
 
 -- what it leaves out
 side-leaves-out : (o : Bool) (rs : List Span) (x : ℤ) → Ascending rs → Word x → holds (gapsUnless o rs) x ≡ not (matches (sideElem o rs) x)
@@ -126,36 +107,19 @@ module _ (lo hi : ℤ) (p : Word lo) (q : Word hi) (o : lo ≤ℤ hi) where
       let b = w .between in
       w .bytes ∙ sym (form-of-side outside rs (between-ascending lo hi p rs b) (between-among lo hi p rs b) (between-lower lo hi p rs b) (typed-facts lo hi t (sideElem outside rs) (form-reads t outside rs w) .0))
 
-  -- ---- every normal form is written so
+  -- ---- every form of at most 64 leaves is written so
 
-  module _ (all : List Span) (f : Ascending all) where
-    cut-between : holds all lo ≡ false → Between lo hi (cutTo lo hi all)
-    cut-between h =
-        let w = words-of all f in
-        between-of lo hi (cutTo lo hi all) p (ascending-cut lo hi p q all o f) (among-cut lo hi p q all w)
-        (holds-in-type lo hi p q all lo w (lower-in-type lo hi p q o) o ∙ h)
+  pub written-by : (e : Elem Leaf) → Good e → length (sideRanges lo hi (rangesOf e)) ≤ 64 → WrittenFrom lo hi (normalForm lo hi e) (holds (rangesOf e) lo) (sideRanges lo hi (rangesOf e))
+  unfolding normalForm
+  written-by e g few =
+      let d = side lo hi p q o (rangesOf e) (matches e) (leaves e) (elem-set e g) in
+      record { few = few; between = between-of lo hi (sideRanges lo hi (rangesOf e)) p (d .ascending) (d .among) (d .lower); bytes = form-side lo hi (rangesOf e) }
 
   pub form-written : (t : List ℕ) (e : Elem Leaf) → readElement (typedHead lo hi) t ≡ got e []
       → WrittenFrom lo hi (normalForm lo hi e) (holds (rangesOf e) lo) (sideRanges lo hi (rangesOf e))
-  unfolding normalForm form
   form-written t e r =
-      let facts = typed-facts lo hi t e r in
-      let own = elem-set e (facts .0) in
-      let others = gaps-set (rangesOf e) (matches e) (2 * leaves e) own in
-      by-test (holds (rangesOf e) lo)
-      (λ h.
-      let out : holds (gaps (rangesOf e)) lo ≡ false = holds-gaps (rangesOf e) (own .ascending) lo p ∙ ap not h in
-      rw h (record {
-        few = omega (arith, cut-length lo hi p q (gaps (rangesOf e)) (λ x. not (matches e x)) (leaves e) others out, facts .2);
-        between = cut-between (gaps (rangesOf e)) (others .ascending) out;
-        bytes = refl;
-      }))
-      (λ h.
-      rw h (record {
-        few = omega (arith, cut-length lo hi p q (rangesOf e) (matches e) (leaves e) own h, facts .2);
-        between = cut-between (rangesOf e) (own .ascending) h;
-        bytes = refl;
-      }))
+      let f = typed-facts lo hi t e r in
+      written-by e (f .0) (omega (arith, side lo hi p q o (rangesOf e) (matches e) (leaves e) (elem-set e (f .0)) .few, f .2))
 
 -- ---- the normaliser's number, with room for every form
 

@@ -1,35 +1,25 @@
 -- The meeting of two normal forms (docs/RULES.md, "Joining and negating rules"): "the normal form of what both match", under given type bounds.
 -- both a b         == the element template complement(complement(a), complement(b)): it matches what a and b both match
--- sideRanges lo hi rs == the ranges that the form of what rs hold of the type from lo to hi is written from
--- formLeaves lo hi rs == how many leaves that form has: one for each range, and one for everything and for nothing
 -- isForm lo hi s e == the bytes s, which read as e, are a normal form: the one that the normaliser writes for them
 -- met lo hi s a t b room == the answer to the inputs s and t, which read as a and b
 -- meetRead lo hi s t o o′ room == the answer to inputs that read as o and o′
 -- meetingOf lo hi s t room == the answer to the inputs s and t, the bounds lo and hi of the type, and the room
 -- Assumes nothing: these are definitions.
-use Prim.Native.Nat.{ℕ, max}
+use Prim.Native.Nat.{ℕ}
 use mathlib.Core.Bool.{Bool, cond, _&&_}
 use mathlib.Core.List.{List}
 use lib.Dec.{ltb}
 use lib.IntN.{ℤ}
-use lib.ListN.{length}
 use Rattle.facts.specs.SameLists.{sameBytes}
 use Rattle.grammar.specs.Element.{Elem, noneOf, none, more}
 use Rattle.grammar.specs.Leaf.{Leaf}
 use Rattle.grammar.specs.Read.{Read, refuse, got}
-use Rattle.ranges.specs.Spans.{Span, holds, gaps, cutTo}
 use Rattle.forms.specs.Matched.{rangesOf}
-use Rattle.forms.specs.Form.{normalForm}
+use Rattle.forms.specs.Form.{normalForm, formLeaves}
 use Rattle.forms.specs.Answer.{Answer, answer, placed, readUnder}
 
 abbrev pub both : Elem Leaf → Elem Leaf → Elem Leaf
 both a b = noneOf (more (noneOf (more a none)) (more (noneOf (more b none)) none))
-
-abbrev pub sideRanges : ℤ → ℤ → List Span → List Span
-sideRanges lo hi rs = cond (holds rs lo) (cutTo lo hi (gaps rs)) (cutTo lo hi rs)
-
-unfoldable pub formLeaves : ℤ → ℤ → List Span → ℕ
-formLeaves lo hi rs = max 1 (length (sideRanges lo hi rs))
 
 unfoldable pub isForm : ℤ → ℤ → List ℕ → Elem Leaf → Bool
 isForm lo hi s e = sameBytes s (normalForm lo hi e)
