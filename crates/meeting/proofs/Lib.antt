@@ -1,12 +1,10 @@
 -- What the proofs of several functions use, and what other crates cite.
--- Mixtures   == ranges of two sets, mixed turn by turn
--- Sides      == what a form leaves out, and the form of what leaves out given ranges
+-- Results    == the form of what leaves out given ranges
 -- Betweens   == the ranges that a normal form may be written from
 -- WholeForms == normal forms as bytes, and the ranges that they are written from
 -- Meetings   == the meeting by sides and ranges is the meeting of the definition
 -- Unique     == the promise of `meeting` allows one result only
-mod Mixtures
-mod Sides
+mod Results
 mod Betweens
 pub mod WholeForms
 pub mod Meetings

@@ -18,9 +18,9 @@ use Rattle.grammar.specs.Leaf.{Leaf, typedHead}
 use Rattle.grammar.specs.Matches.{matchesBy, matches}
 use Rattle.grammar.specs.Read.{Read, refuse, got}
 use Rattle.grammar.specs.Reading.{readElement}
-use Rattle.ranges.specs.Spans.{Span, holds, Ascending, Proper, joinAll, gaps, cutTo}
+use Rattle.ranges.specs.Spans.{Span, holds, Ascending, Proper, gaps, cutTo}
 use Rattle.ranges.specs.Shown.{view}
-use Rattle.ranges.proofs.JoinsAndGaps.{proper-of, proper-append, holds-append, holds-gaps, ascending-gaps, ascending-joined, holds-joined}
+use Rattle.ranges.proofs.JoinsAndGaps.{holds-append, holds-gaps, ascending-gaps, holds-joined}
 use Rattle.ranges.proofs.Cuts.{word-between}
 use Rattle.forms.specs.Matched.{rangesOf}
 use Rattle.forms.specs.Form.{sideForm, form, normalForm, sideRanges, formLeaves}
@@ -30,10 +30,11 @@ use Rattle.forms.proofs.FormSides.{sideElem}
 use Rattle.forms.proofs.SameForms.{same-sides, same-forms}
 use Rattle.forms.proofs.Sets.{elem-set}
 use Rattle.form_reader.specs.FormRead.{WrittenFrom, FormRead, isForm as readsAsForm, noForm}
-use Rattle.meeting.specs.Contract.{Held, gapsUnless, notInBoth, writtenFrom, faultOf}
+use Rattle.mixing.specs.Mixing.{Held, gapsUnless, notInBoth}
+use Rattle.mixing.proofs.Turned.{proper-both, ascending-not-in-both}
+use Rattle.meeting.specs.Contract.{writtenFrom, faultOf}
 use Rattle.meeting.specs.Meeting.{both, isForm, met, meetRead, meetingOf}
 use Rattle.meeting.proofs.Betweens.{between-ascending, between-lower}
-use Rattle.meeting.proofs.Sides.{ascending-unless}
 use Rattle.meeting.proofs.WholeForms.{Under, refusedUnder, readAs, under, form-reads, form-under, leaves-out, form-is, form-written, gaps-gaps}
 
 -- ---- what both match
@@ -80,14 +81,17 @@ module _ (lo hi : ℤ) (p : Word lo) (q : Word hi) (o : lo ≤ℤ hi) where
     abbrev us : List Span
     us = notInBoth o₁ rs o₂ ss
 
-    out-proper : Proper out
-    out-proper =
-        proper-append (gapsUnless o₁ rs) (gapsUnless o₂ ss)
-        (proper-of (gapsUnless o₁ rs) (ascending-unless o₁ rs (between-ascending lo hi p rs (u .between))))
-        (proper-of (gapsUnless o₂ ss) (ascending-unless o₂ ss (between-ascending lo hi p ss (v .between))))
+    first-ascending : Ascending rs
+    first-ascending = between-ascending lo hi p rs (u .between)
 
-    pub ascending-out : Ascending us
-    ascending-out = ascending-joined out [] out-proper tt
+    second-ascending : Ascending ss
+    second-ascending = between-ascending lo hi p ss (v .between)
+
+    out-proper : Proper out
+    out-proper = proper-both o₁ rs o₂ ss first-ascending second-ascending
+
+    ascending-out : Ascending us
+    ascending-out = ascending-not-in-both o₁ rs o₂ ss first-ascending second-ascending
 
     -- what is left is what both match
     left-matched : (x : ℤ) → Word x → holds (gaps us) x ≡ (matches a x && matches b x)

@@ -31,7 +31,8 @@ use Rattle.forms.proofs.Readings.{matchedElem, unmatchedElem, matched-matches, 
 use Rattle.forms.proofs.SameForms.{same-forms}
 use Rattle.forms.proofs.Sets.{elem-set}
 use Rattle.form_reader.specs.FormRead.{WrittenFrom}
-use Rattle.meeting.specs.Contract.{gapsUnless, faultOf}
+use Rattle.mixing.specs.Mixing.{gapsUnless}
+use Rattle.meeting.specs.Contract.{faultOf}
 use Rattle.meeting.proofs.Betweens.{between-ascending, between-among, between-lower, between-of}
 
 -- ---- bytes under a type

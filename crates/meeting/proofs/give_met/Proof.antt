@@ -9,8 +9,9 @@ use Rattle.integers.proofs.SignedLocals.{again, again-same}
 use Rattle.ranges.specs.Shown.{view}
 use Rattle.ranges.specs.Spans.{Span, Proper, cutTo}
 use Rattle.ranges.proofs.JoinsAndGaps.{proper-of}
-use Rattle.meeting.specs.Contract.{gapsUnless}
-use Rattle.meeting.proofs.Sides.{ascending-unless, written-over, written-form}
+use Rattle.mixing.specs.Mixing.{gapsUnless}
+use Rattle.mixing.proofs.Turned.{ascending-unless}
+use Rattle.meeting.proofs.Results.{written-over, written-form}
 use Rattle.meeting.proofs.give_met.Statement.{statement}
 use Rattle.meeting.proofs.give_met.Tie as tie
 
