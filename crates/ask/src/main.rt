@@ -1,4 +1,4 @@
-// Lets anyone try the matcher, the judge, the normaliser and the reason for no match on bytes.
+// Lets anyone try the matcher, the judge, the normaliser, the meeting and the reason for no match on bytes.
 //
 // Standard input is a run of requests, and each gets one line. Every u16 has its low byte first.
 //   1, FAMILY, u16 t, t template bytes, u16 n, n elements, u16 r: a match. A room of r bytes, each 165,
@@ -7,17 +7,20 @@
 //     is `NUMBER`.
 //   3, u16 t, t template bytes, the lower and the upper bound of the type, u16 r: a normal form. The line is
 //     `NUMBER LENGTH ROOM`.
+//   4, u16 p, p bytes of the first form, u16 q, q bytes of the second, the lower and the upper bound of the type, u16 r: a meeting. The
+//     line is `NUMBER LENGTH ROOM`.
 //   7, FAMILY, u16 t, t template bytes, u16 n, n elements: why not. The line is `NUMBER GROUP`, the mask in
 //     eight hexadecimal digits, `-` where no group is given.
 // FAMILY is a byte: 0, and the elements are integers of four bytes, or 1, and they are floats of eight; every
 // pattern of a NaN is the same element. A bound is an integer. ROOM is the whole room afterwards in hexadecimal, `-` where r is 0. A
-// request over its bounds (t 5,000, n 64, r and w 1,024), another first byte or family, and a request that
+// request over its bounds (t, p and q 5,000, n 64, r and w 1,024), another first byte or family, and a request that
 // ends early get the line `bad`, and the run ends.
 use answers::Normal;
 use ask_parts::Answer;
 use ask_parts::FLOATS;
 use ask_parts::JUDGE;
 use ask_parts::MATCH;
+use ask_parts::MEETING;
 use ask_parts::NORMALISE;
 use ask_parts::Request;
 use ask_parts::print_answer;
@@ -26,6 +29,7 @@ use matcher::judge;
 use matcher::judge_floats;
 use matcher::match_floats;
 use matcher::match_list;
+use meeting::meeting;
 use normal::normalise;
 use why::why_not;
 use why::why_not_floats;
@@ -44,6 +48,16 @@ fn of_number(number: u8) -> Answer {
 // What the normaliser gives back under the type of these bounds.
 fn of_form(template: &[u8], lower: i32, upper: i32, room: &mut [u8]) -> Answer {
     let form: Normal = normalise(template, lower, upper, room);
+    Answer {
+        number: form.number,
+        length: form.length,
+        group: 0,
+    }
+}
+
+// What the meeting of these forms gives back under the type of these bounds.
+fn of_meeting(first: &[u8], second: &[u8], lower: i32, upper: i32, room: &mut [u8]) -> Answer {
+    let form: Normal = meeting(first, second, lower, upper, room);
     Answer {
         number: form.number,
         length: form.length,
@@ -87,12 +101,16 @@ fn of_floats(kind: usize, template: &[u8], list: &[f64], room: &mut [u8]) -> Ans
 fn answer_of(
     request: Request,
     template: &[u8],
+    second: &[u8],
     integers: &[i32],
     floats: &[f64],
     room: &mut [u8],
 ) -> Answer {
     if request.kind == NORMALISE {
         return of_form(template, request.lower, request.upper, room);
+    }
+    if request.kind == MEETING {
+        return of_meeting(template, second, request.lower, request.upper, room);
     }
     if request.family == FLOATS {
         return of_floats(request.kind, template, floats, room);
@@ -104,27 +122,37 @@ fn answer_of(
 fn answer(
     request: Request,
     template: &[u8],
+    second: &[u8],
     integers: &[i32],
     floats: &[f64],
     room: &mut [u8],
 ) -> bool {
-    let given = answer_of(request, template, integers, floats, room);
+    let given = answer_of(request, template, second, integers, floats, room);
     print_answer(request.kind, given, room)
 }
 
 // Both lists have as many elements as were read; only that of the family is looked at.
 fn take_request() -> bool {
     let mut template = [0u8; 5000];
+    let mut second = [0u8; 5000];
     let mut integers = [0i32; 64];
     let mut floats = [0.0f64; 64];
     let mut room = [UNTOUCHED; 1024];
-    let request = read_request(&mut template, &mut integers, &mut floats, &mut room);
+    let request = read_request(
+        &mut template,
+        &mut second,
+        &mut integers,
+        &mut floats,
+        &mut room,
+    );
     let t = request.template;
+    let s = request.second;
     let n = request.list;
     let r = request.room;
     answer(
         request,
         &template[..t],
+        &second[..s],
         &integers[..n],
         &floats[..n],
         &mut room[..r],

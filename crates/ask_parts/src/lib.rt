@@ -13,6 +13,8 @@ pub const JUDGE: usize = 2;
 
 pub const NORMALISE: usize = 3;
 
+pub const MEETING: usize = 4;
+
 pub const WHY_NOT: usize = 7;
 
 // The second byte says its family, where the kind has one.
@@ -26,7 +28,7 @@ const BAD: usize = 0;
 // Stands for a byte that is missing; a count with such a byte is over every bound. The kind where the input ends.
 const ABSENT: usize = 65536;
 
-// The bounds of the counts.
+// The bounds of the counts. Of the bytes of a template, and of each form of a meeting.
 const ASKED_TEMPLATE_MOST: usize = 5000;
 
 const ASKED_LIST_MOST: usize = 64;
@@ -34,12 +36,13 @@ const ASKED_LIST_MOST: usize = 64;
 // Of the bytes of a room, and of a witness.
 const ASKED_ROOM_MOST: usize = 1024;
 
-// What stands at the front of the arrays that are lent: template bytes, integers or floats as the family says, and the bytes of the room or the
-// witness. `lower` and `upper` are the bounds of the type of a normal form.
+// What stands at the front of the arrays that are lent: template bytes, or the first form of a meeting and the bytes of the second, integers or
+// floats as the family says, and the bytes of the room or the witness. `lower` and `upper` are the bounds of the type of a normal form or a meeting.
 pub struct Request {
     pub kind: usize,
     pub family: usize,
     pub template: usize,
+    pub second: usize,
     pub lower: i32,
     pub upper: i32,
     pub list: usize,
@@ -151,9 +154,14 @@ fn read_elements(family: usize, integers: &mut [i32], floats: &mut [f64], n: usi
     read_integers(integers, n)
 }
 
-// Reads a count and as many elements, and gives back the count. A normal form has no list.
+// Whether a request of this kind is of a type and not of a list.
+fn is_of_type(kind: usize) -> bool {
+    (kind == NORMALISE) | (kind == MEETING)
+}
+
+// Reads a count and as many elements, and gives back the count. What is of a type has no list.
 fn read_list(kind: usize, family: usize, integers: &mut [i32], floats: &mut [f64]) -> usize {
-    if kind == NORMALISE {
+    if is_of_type(kind) {
         return 0;
     }
     let n = next_count();
@@ -164,18 +172,26 @@ fn read_list(kind: usize, family: usize, integers: &mut [i32], floats: &mut [f64
     }
 }
 
-// Reads the family. A normal form is of integers only.
+// Reads the family. What is of a type is of integers only.
 fn read_family(kind: usize) -> usize {
-    if kind == NORMALISE {
+    if is_of_type(kind) {
         return INTEGERS;
     }
     next_byte()
 }
 
-// Reads the bounds of the type. Only a normal form has them.
+// Reads a count and as many bytes of the second form. Only a meeting has one.
+fn read_second(kind: usize, second: &mut [u8]) -> usize {
+    if kind == MEETING {
+        return read_part(second);
+    }
+    0
+}
+
+// Reads the bounds of the type, where there is one.
 fn read_bounds(kind: usize) -> Bounds {
     let mut both = [0i32; 2];
-    let n = if kind == NORMALISE { 2 } else { 0 };
+    let n = if is_of_type(kind) { 2 } else { 0 };
     let read = read_integers(&mut both, n);
     Bounds {
         read,
@@ -196,12 +212,13 @@ fn read_room(kind: usize, room: &mut [u8]) -> usize {
 }
 
 fn without_parts(kind: usize) -> Request
-    ensures { λ r. ⌜ (r .template ≤ 5000) × (r .list ≤ 64) × (r .room ≤ 1024) ⌝ }
+    ensures { λ r. ⌜ (r .template ≤ 5000) × (r .second ≤ 5000) × (r .list ≤ 64) × (r .room ≤ 1024) ⌝ }
 {
     Request {
         kind,
         family: INTEGERS,
         template: 0,
+        second: 0,
         lower: 0,
         upper: 0,
         list: 0,
@@ -213,22 +230,23 @@ fn within_bounds(
     kind: usize,
     family: usize,
     template: usize,
+    second: usize,
     bounds: Bounds,
     list: usize,
     room: usize,
 ) -> Request
-    ensures { λ r. ⌜ (r .template ≤ 5000) × (r .list ≤ 64) × (r .room ≤ 1024) ⌝ }
+    ensures { λ r. ⌜ (r .template ≤ 5000) × (r .second ≤ 5000) × (r .list ≤ 64) × (r .room ≤ 1024) ⌝ }
 {
     if kind == ABSENT {
         return without_parts(ABSENT);
     }
-    if FLOATS < family {
+    if (FLOATS < family) | !bounds.read {
         return without_parts(BAD);
     }
     if ASKED_TEMPLATE_MOST < template {
         return without_parts(BAD);
     }
-    if !bounds.read {
+    if ASKED_TEMPLATE_MOST < second {
         return without_parts(BAD);
     }
     if ASKED_LIST_MOST < list {
@@ -241,6 +259,7 @@ fn within_bounds(
         kind,
         family,
         template,
+        second,
         lower: bounds.lower,
         upper: bounds.upper,
         list,
@@ -251,19 +270,21 @@ fn within_bounds(
 // Reads the next request.
 pub fn read_request(
     template: &mut [u8],
+    second: &mut [u8],
     integers: &mut [i32],
     floats: &mut [f64],
     room: &mut [u8],
 ) -> Request
-    ensures { λ r. ⌜ (r .template ≤ 5000) × (r .list ≤ 64) × (r .room ≤ 1024) ⌝ }
+    ensures { λ r. ⌜ (r .template ≤ 5000) × (r .second ≤ 5000) × (r .list ≤ 64) × (r .room ≤ 1024) ⌝ }
 {
     let kind = next_byte();
     let family = read_family(kind);
     let t = read_part(template);
+    let s = read_second(kind, second);
     let bounds = read_bounds(kind);
     let n = read_list(kind, family, integers, floats);
     let r = read_room(kind, room);
-    within_bounds(kind, family, t, bounds, n, r)
+    within_bounds(kind, family, t, s, bounds, n, r)
 }
 
 fn print(byte: u8) {
@@ -327,7 +348,7 @@ fn print_rest(kind: usize, answer: Answer, room: &[u8]) {
         print_group(answer.group);
         return;
     }
-    if kind == NORMALISE {
+    if is_of_type(kind) {
         io::print_decimal(STDOUT_FILENO, answer.length as u64);
         print(b' ');
     }
@@ -335,7 +356,7 @@ fn print_rest(kind: usize, answer: Answer, room: &[u8]) {
 }
 
 fn is_good(kind: usize) -> bool {
-    (kind == MATCH) | (kind == JUDGE) | (kind == NORMALISE) | (kind == WHY_NOT)
+    (kind == MATCH) | (kind == JUDGE) | is_of_type(kind) | (kind == WHY_NOT)
 }
 
 // Prints the line of the answer to a request of this kind, none where the input ends, and says whether another request may follow.

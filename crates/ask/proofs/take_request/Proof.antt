@@ -17,6 +17,9 @@ slice-aggregate-read-request-3 c = search needs
 slice-aggregate-read-request-4 : tie.Need-slice-aggregate-read-request-4
 slice-aggregate-read-request-4 c = search needs
 
+slice-aggregate-read-request-5 : tie.Need-slice-aggregate-read-request-5
+slice-aggregate-read-request-5 c = search needs
+
 read-request-requires : tie.Need-read-request-requires
 read-request-requires c κs = search needs
 
@@ -26,23 +29,29 @@ array-share-prefix-template c = search needs
 slice-aggregate-answer : tie.Need-slice-aggregate-answer
 slice-aggregate-answer c = sym (length-take-le _ _ (search needs))
 
-array-share-prefix-integers : tie.Need-array-share-prefix-integers
-array-share-prefix-integers c = search needs
+array-share-prefix-second : tie.Need-array-share-prefix-second
+array-share-prefix-second c = search needs
 
 slice-aggregate-answer-2 : tie.Need-slice-aggregate-answer-2
 slice-aggregate-answer-2 c = sym (length-take-le _ _ (search needs))
 
-array-share-prefix-floats : tie.Need-array-share-prefix-floats
-array-share-prefix-floats c = search needs
+array-share-prefix-integers : tie.Need-array-share-prefix-integers
+array-share-prefix-integers c = search needs
 
 slice-aggregate-answer-3 : tie.Need-slice-aggregate-answer-3
 slice-aggregate-answer-3 c = sym (length-take-le _ _ (search needs))
 
-array-borrow-prefix-room : tie.Need-array-borrow-prefix-room
-array-borrow-prefix-room c = search needs
+array-share-prefix-floats : tie.Need-array-share-prefix-floats
+array-share-prefix-floats c = search needs
 
 slice-aggregate-answer-4 : tie.Need-slice-aggregate-answer-4
 slice-aggregate-answer-4 c = sym (length-take-le _ _ (search needs))
+
+array-borrow-prefix-room : tie.Need-array-borrow-prefix-room
+array-borrow-prefix-room c = search needs
+
+slice-aggregate-answer-5 : tie.Need-slice-aggregate-answer-5
+slice-aggregate-answer-5 c = sym (length-take-le _ _ (search needs))
 
 answer-requires : tie.Need-answer-requires
 answer-requires c κs = search needs
@@ -58,14 +67,17 @@ take-request-spec =
     slice-aggregate-read-request-2
     slice-aggregate-read-request-3
     slice-aggregate-read-request-4
+    slice-aggregate-read-request-5
     read-request-requires
     array-share-prefix-template
     slice-aggregate-answer
-    array-share-prefix-integers
+    array-share-prefix-second
     slice-aggregate-answer-2
-    array-share-prefix-floats
+    array-share-prefix-integers
     slice-aggregate-answer-3
-    array-borrow-prefix-room
+    array-share-prefix-floats
     slice-aggregate-answer-4
+    array-borrow-prefix-room
+    slice-aggregate-answer-5
     answer-requires
     returns)
