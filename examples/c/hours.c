@@ -1,6 +1,6 @@
 /*
- * A rule with a type, that of docs/RULES.md, "Hours of the afternoon", from C: matched, judged, and in normal form under the type. It prints the lines
- * of examples/hours.out, and so does examples/rust/hours.rs. `tools/test-callers` builds and compares both.
+ * A rule with a type, that of docs/RULES.md, "Hours of the afternoon", from C: matched, judged, and in normal form under the type; and what two
+ * rules for hours both match. It prints the lines of examples/hours.out, and so does examples/rust/hours.rs. `tools/test-callers` builds and compares both.
  */
 #include "intake.h"
 
@@ -23,6 +23,13 @@ static const uint8_t *const not_morning = afternoon + 11;
 static const uint8_t *const morning = afternoon + 13;
 enum { NOT_MORNING_LENGTH = 11, MORNING_LENGTH = 9 };
 
+/* The hours in which a desk is open: (6..17), which is a normal form of the type 0 to 23. The morning is one only once it is normalised. */
+static const uint8_t open_hours[] = {
+    0x02,                         /* a range: */
+    0x06, 0x00, 0x00, 0x00,       /*   6 */
+    0x11, 0x00, 0x00, 0x00        /*   to 17 */
+};
+
 static void match_hour(int32_t hour)
 {
     uint8_t room[INTAKE_LIST_MOST];
@@ -44,15 +51,42 @@ static void judge_hour(int32_t hour, uint8_t member)
     else printf("refused, number %d\n", number);
 }
 
+static void print_bytes(uint8_t number, const uint8_t *bytes, size_t length)
+{
+    printf(", number %d, %d bytes:", number, (int)length);
+    for (size_t i = 0; i < length; i++) printf(" %02x", bytes[i]);
+    printf("\n");
+}
+
 static void print_form(const char *name, const uint8_t *element_template, size_t template_length, int32_t lower, int32_t upper)
 {
     uint8_t room[INTAKE_FORM_MOST];
     size_t length;
     uint8_t number = intake_normalise_typed(element_template, template_length, lower, upper, room, sizeof room, &length);
 
-    printf("%s of %d to %d, number %d, %d bytes:", name, (int)lower, (int)upper, number, (int)length);
-    for (size_t i = 0; i < length; i++) printf(" %02x", room[i]);
-    printf("\n");
+    printf("%s of %d to %d", name, (int)lower, (int)upper);
+    print_bytes(number, room, length);
+}
+
+/* What the hours of the form and the open ones have in common. */
+static void meet_open(const char *name, const uint8_t *form, size_t form_length)
+{
+    uint8_t room[INTAKE_FORM_MOST];
+    size_t length;
+    uint8_t number = intake_meeting(form, form_length, open_hours, sizeof open_hours, 0, 23, room, sizeof room, &length);
+
+    printf("%s and open", name);
+    print_bytes(number, room, length);
+}
+
+/* The same of an element template, in normal form first. */
+static void meet_open_normalised(const char *name, const uint8_t *element_template, size_t template_length)
+{
+    uint8_t form[INTAKE_FORM_MOST];
+    size_t length;
+
+    if (intake_normalise_typed(element_template, template_length, 0, 23, form, sizeof form, &length) == INTAKE_DONE)
+        meet_open(name, form, length);
 }
 
 int main(void)
@@ -67,5 +101,9 @@ int main(void)
     print_form("morning", morning, MORNING_LENGTH, 0, 11);
     print_form("morning", morning, MORNING_LENGTH, 0, 10);
     print_form("morning", morning, MORNING_LENGTH, 23, 0);
+    meet_open_normalised("morning", morning, MORNING_LENGTH);
+    meet_open_normalised("not morning", not_morning, NOT_MORNING_LENGTH);
+    meet_open("open", open_hours, sizeof open_hours);
+    meet_open("morning, not in normal form,", morning, MORNING_LENGTH);
     return 0;
 }

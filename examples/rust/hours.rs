@@ -1,7 +1,8 @@
-//! A rule with a type, that of docs/RULES.md, "Hours of the afternoon", from Rust: matched, judged, and in normal form under the type. It prints the
-//! lines of examples/hours.out, and so does examples/c/hours.c. `tools/test-callers` builds and compares both.
+//! A rule with a type, that of docs/RULES.md, "Hours of the afternoon", from Rust: matched, judged, and in normal form under the type; and what two
+//! rules for hours both match. It prints the lines of examples/hours.out, and so does examples/c/hours.c. `tools/test-callers` builds and compares both.
 
-use intake::{judge, match_list, normalise_typed, Answer, List, Verdict};
+use intake::{judge, match_list, meeting, normalise_typed};
+use intake::{Answer, Form, List, Refusal, Verdict};
 
 /// A kind and the bounds behind it: 02 is a range, 31 the type of a rule.
 fn bounds(kind: u8, lower: i32, upper: i32) -> Vec<u8> {
@@ -16,6 +17,11 @@ fn morning() -> Vec<u8> {
 /// complement((0..11))
 fn not_morning() -> Vec<u8> {
     [vec![0x05, 1], morning()].concat()
+}
+
+/// The hours in which a desk is open: (6..17), which is a normal form of the type 0 to 23. The morning is one only once it is normalised.
+fn open_hours() -> Vec<u8> {
+    bounds(0x02, 6, 17)
 }
 
 /// An hour of the afternoon: {complement((0..11))}, of the type 0 to 23.
@@ -47,14 +53,34 @@ fn judge_hour(hour: i32, member: u8) {
     println!("hour {hour}, members {member}: {verdict}");
 }
 
-fn print_form(name: &str, template: &[u8], lower: i32, upper: i32) {
-    let (number, form) = match normalise_typed(template, lower, upper) {
+fn print_bytes(name: &str, given: Result<Form, Refusal>) {
+    let (number, form) = match given {
         Ok(form) => (0, form.to_vec()),
         Err(refusal) => (refusal.number(), Vec::new()),
     };
     let bytes: String = form.iter().map(|byte| format!(" {byte:02x}")).collect();
     let length = form.len();
-    println!("{name} of {lower} to {upper}, number {number}, {length} bytes:{bytes}");
+    println!("{name}, number {number}, {length} bytes:{bytes}");
+}
+
+fn print_form(name: &str, template: &[u8], lower: i32, upper: i32) {
+    let form = normalise_typed(template, lower, upper);
+    print_bytes(&format!("{name} of {lower} to {upper}"), form);
+}
+
+/// What the hours of the form and the open ones have in common.
+fn meet_open(name: &str, form: &[u8]) {
+    print_bytes(
+        &format!("{name} and open"),
+        meeting(form, &open_hours(), 0, 23),
+    );
+}
+
+/// The same of an element template, in normal form first.
+fn meet_open_normalised(name: &str, template: &[u8]) {
+    if let Ok(form) = normalise_typed(template, 0, 23) {
+        meet_open(name, &form);
+    }
 }
 
 fn main() {
@@ -68,4 +94,8 @@ fn main() {
     print_form("morning", &morning(), 0, 11);
     print_form("morning", &morning(), 0, 10);
     print_form("morning", &morning(), 23, 0);
+    meet_open_normalised("morning", &morning());
+    meet_open_normalised("not morning", &not_morning());
+    meet_open("open", &open_hours());
+    meet_open("morning, not in normal form,", &morning());
 }

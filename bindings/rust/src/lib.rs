@@ -1,5 +1,5 @@
-//! Intake from Rust: whether a list of integers or of floats matches a rule, by which assignment, and why not; and the normal form of an element
-//! template.
+//! Intake from Rust: whether a list of integers or of floats matches a rule, by which assignment, and why not; the normal form of an element
+//! template; and the meeting of two normal forms.
 //!
 //! The functions are those of `include/intake.h`, proved in the repository's crate `exports`. This wrapper is not proved. It lends the rooms
 //! itself, and its types leave no way to hand over a wrong length: a [`List`] has at most [`LIST_MOST`] elements, and an [`Offer`] one member for
@@ -173,6 +173,24 @@ pub fn normalise(template: &[u8]) -> Result<Form, Refusal> {
 pub fn normalise_typed(template: &[u8], lower: i32, upper: i32) -> Result<Form, Refusal> {
     let mut room = [0; FORM_MOST];
     let (number, length) = library::normalise_typed(template, lower, upper, &mut room);
+    form(number, room, length)
+}
+
+/// The meeting of two normal forms under a type, the integers from `lower` to `upper`, both of them too: the normal form of what both match. Each is
+/// what [`normalise_typed`] gives for some template under the same bounds; without a type these are [`i32::MIN`] and [`i32::MAX`].
+///
+/// ```
+/// use intake::{meeting, normalise_typed, Refusal};
+///
+/// let morning = [2, 0, 0, 0, 0, 11, 0, 0, 0]; // (0..11)
+/// let open = [2, 6, 0, 0, 0, 17, 0, 0, 0]; // (6..17)
+/// let form = normalise_typed(&morning, 0, 23).unwrap();
+/// assert_eq!(*meeting(&form, &open, 0, 23).unwrap(), [2, 6, 0, 0, 0, 11, 0, 0, 0]); // (6..11)
+/// assert_eq!(meeting(&morning, &open, 0, 23), Err(Refusal::NoNormalForm)); // it is complement((12..23)) there
+/// ```
+pub fn meeting(first: &[u8], second: &[u8], lower: i32, upper: i32) -> Result<Form, Refusal> {
+    let mut room = [0; FORM_MOST];
+    let (number, length) = library::meeting(first, second, lower, upper, &mut room);
     form(number, room, length)
 }
 

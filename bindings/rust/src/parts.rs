@@ -127,7 +127,7 @@ impl Group {
     }
 }
 
-/// Why bytes are no rule, or a list is not of its type, by its number in `docs/RULES.md`.
+/// Why bytes are no rule, a list is not of its type, or two forms have no meeting, by its number in `docs/RULES.md`.
 #[derive(Clone, Copy, Debug, PartialEq, Eq, Hash)]
 #[repr(u8)]
 pub enum Refusal {
@@ -143,7 +143,7 @@ pub enum Refusal {
     BadBounds = 6,
     /// An element template stands at depth 9.
     TooDeep = 7,
-    /// There is a 33rd member, a 65th leaf, or a second any-elements in one set of or permutation.
+    /// There is a 33rd member, a 65th leaf, of the result of a meeting too, or a second any-elements in one set of or permutation.
     TooMany = 8,
     /// A superset has a length min below n, or a subset a length max above n.
     LengthClash = 9,
@@ -151,6 +151,8 @@ pub enum Refusal {
     LeftOver = 10,
     /// A float of the rule is a NaN. Only a rule for floats is refused so.
     NotANumber = 14,
+    /// A form that is to meet another is no normal form under the type. Only a meeting is refused so.
+    NoNormalForm = 15,
     /// A value or a range of the rule reaches outside its type.
     LeafOutside = 16,
     /// An element of the list is outside the type of the rule.
@@ -176,6 +178,7 @@ impl Refusal {
             8 => Refusal::TooMany,
             9 => Refusal::LengthClash,
             14 => Refusal::NotANumber,
+            15 => Refusal::NoNormalForm,
             16 => Refusal::LeafOutside,
             17 => Refusal::ElementOutside,
             _ => {
@@ -199,6 +202,7 @@ impl fmt::Display for Refusal {
             Refusal::LengthClash => "the length attribute leaves no list to the superset or subset",
             Refusal::LeftOver => "bytes are left after the template",
             Refusal::NotANumber => "a float of the template is a NaN",
+            Refusal::NoNormalForm => "an input of the meeting is no normal form",
             Refusal::LeafOutside => "a value or a range of the template reaches outside its type",
             Refusal::ElementOutside => "an element of the list is outside the type of the template",
         })

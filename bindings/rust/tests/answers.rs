@@ -1,7 +1,7 @@
 //! The wrapper on the static library: the examples of README.md, each refusal, and the lengths that the types keep out.
 
 use intake::{judge, judge_floats, match_floats, match_list, why_not, why_not_floats};
-use intake::{normalise, normalise_typed};
+use intake::{meeting, normalise, normalise_typed};
 use intake::{Answer, FloatList, List, Refusal, Verdict, Why, FORM_MOST, LIST_MOST, TEMPLATE_MOST};
 
 /// set of {any value, 1}
@@ -159,6 +159,77 @@ fn a_form_is_that_of_its_type() {
     );
     assert_eq!(normalise_typed(&[], 5, 4), Err(Refusal::BadBounds));
     assert_eq!(normalise_typed(&[], 4, 5), Err(Refusal::Missing));
+}
+
+#[test]
+fn a_meeting_is_the_form_of_what_both_match() {
+    let form = |template: &[u8]| normalise_typed(template, 0, 23).unwrap();
+    let (morning, open) = (form(&range(0, 11)), form(&range(6, 17)));
+    let both = form(&range(6, 11));
+    assert_eq!(meeting(&morning, &open, 0, 23), Ok(both));
+    assert_eq!(meeting(&open, &morning, 0, 23), Ok(both));
+    assert_eq!(meeting(&open, &open, 0, 23), Ok(open));
+    assert_eq!(meeting(&open, &[3], 0, 23), Ok(open));
+    let afternoon = form(&range(12, 23));
+    let nothing = form(&of(5, &[vec![3]]));
+    assert_eq!(meeting(&morning, &afternoon, 0, 23), Ok(nothing));
+    let but = |hour| form(&of(5, &[single(hour)]));
+    let neither = form(&of(5, &[single(5), single(7)]));
+    assert_eq!(meeting(&but(7), &but(5), 0, 23), Ok(neither));
+}
+
+#[test]
+fn refusals_of_a_meeting_come_in_their_order() {
+    let (everything, no_form) = (vec![3], of(4, &[vec![3]]));
+    let long = of(4, &[of(4, &vec![vec![3]; 64]), vec![3]]);
+    let too_long = vec![3; TEMPLATE_MOST + 1];
+    let rows = [
+        (&no_form, &everything, Refusal::NoNormalForm, 15),
+        (&everything, &no_form, Refusal::NoNormalForm, 15),
+        (&no_form, &long, Refusal::TooMany, 8),
+        (&long, &too_long, Refusal::TooMany, 8),
+        (&no_form, &too_long, Refusal::TooLong, 2),
+        (&everything, &single(24), Refusal::LeafOutside, 16),
+        (&single(24), &vec![0xff], Refusal::LeafOutside, 16),
+        (&no_form, &vec![0xff], Refusal::BadKind, 4),
+    ];
+    for (first, second, refusal, number) in rows {
+        assert_eq!(meeting(first, second, 0, 23), Err(refusal));
+        assert_eq!(refusal.number(), number);
+        assert!(!refusal.to_string().is_empty());
+    }
+    let (least, greatest) = (i32::MIN, i32::MAX);
+    assert_eq!(meeting(&[3], &[3], 5, 4), Err(Refusal::BadBounds));
+    let morning = range(0, 11);
+    assert_eq!(meeting(&morning, &[3], 0, 23), Err(Refusal::NoNormalForm));
+    assert_eq!(
+        *meeting(&morning, &[3], least, greatest).unwrap(),
+        morning[..]
+    );
+}
+
+#[test]
+fn a_meeting_has_at_most_64_leaves() {
+    let all_but = |numbers: Vec<i32>| of(5, &numbers.into_iter().map(single).collect::<Vec<_>>());
+    let (least, greatest) = (i32::MIN, i32::MAX);
+    let fours = all_but((1..=32).map(|i| 4 * i).collect());
+    let between = all_but((0..32).map(|i| 4 * i + 2).collect());
+    let evens = all_but((1..=64).map(|i| 2 * i).collect());
+    assert_eq!(
+        *meeting(&fours, &between, least, greatest).unwrap(),
+        evens[..]
+    );
+    let fours = all_but((0..=32).map(|i| 4 * i).collect());
+    assert_eq!(
+        meeting(&fours, &between, least, greatest),
+        Err(Refusal::TooMany)
+    );
+    let ranges: Vec<_> = (0..64).map(|i| range(10 * i, 10 * i + 5)).collect();
+    let longest = of(4, &ranges);
+    assert_eq!(
+        *meeting(&longest, &longest, least, greatest).unwrap(),
+        longest[..]
+    );
 }
 
 #[test]

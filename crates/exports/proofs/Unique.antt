@@ -14,6 +14,8 @@ use Rattle.exports.proofs.intake_normalise.Reads as intake-normalise
 use Rattle.exports.proofs.intake_normalise.Kinds as intake-normalise-kinds
 use Rattle.exports.proofs.intake_normalise_typed.Reads as intake-normalise-typed
 use Rattle.exports.proofs.intake_normalise_typed.Kinds as intake-normalise-typed-kinds
+use Rattle.exports.proofs.intake_meeting.Reads as intake-meeting
+use Rattle.exports.proofs.intake_meeting.Kinds as intake-meeting-kinds
 use Rattle.exports.proofs.intake_why_not.Reads as intake-why-not
 use Rattle.exports.proofs.intake_why_not.Kinds as intake-why-not-kinds
 use Rattle.exports.proofs.intake_match_floats.Reads as intake-match-floats
@@ -40,6 +42,10 @@ intake-normalise-unique κs a r r′ s s′ p q = answer-parts _ r r′ _ _ _ _ 
 pub intake-normalise-typed-unique : (κs : Lfts 3) (a : Dens κs intake-normalise-typed-kinds.ps) (r r′ : resT intake-normalise-typed-kinds.r κs .Denot) (s s′ : AtExit (endedOf 3 intake-normalise-typed-kinds.ps intake-normalise-typed-kinds.r) κs)
     → intake-normalise-typed.Post κs a r s → intake-normalise-typed.Post κs a r′ s′ → (r ≡ r′) × (s .1 .1 .1 .1 .0 .now ≡ s′ .1 .1 .1 .1 .0 .now) × (s .1 .1 .1 .0 .now ≡ s′ .1 .1 .1 .0 .now)
 intake-normalise-typed-unique κs a r r′ s s′ p q = answer-parts _ r r′ _ _ _ _ p q
+
+pub intake-meeting-unique : (κs : Lfts 4) (a : Dens κs intake-meeting-kinds.ps) (r r′ : resT intake-meeting-kinds.r κs .Denot) (s s′ : AtExit (endedOf 4 intake-meeting-kinds.ps intake-meeting-kinds.r) κs)
+    → intake-meeting.Post κs a r s → intake-meeting.Post κs a r′ s′ → (r ≡ r′) × (s .1 .1 .1 .1 .1 .0 .now ≡ s′ .1 .1 .1 .1 .1 .0 .now) × (s .1 .1 .1 .1 .0 .now ≡ s′ .1 .1 .1 .1 .0 .now)
+intake-meeting-unique κs a r r′ s s′ p q = answer-parts _ r r′ _ _ _ _ p q
 
 -- number and group
 pub intake-why-not-unique : (κs : Lfts 3) (a : Dens κs intake-why-not-kinds.ps) (r r′ : resT intake-why-not-kinds.r κs .Denot) (s s′ : AtExit (endedOf 3 intake-why-not-kinds.ps intake-why-not-kinds.r) κs)

@@ -5,6 +5,7 @@ ghost use Rattle.format.specs.declared.Family.{Family};
 ghost use Rattle.matching.specs.Answer.{given, matchAnswer, judgeAnswer};
 ghost use Rattle.integers.specs.Integer.{least, greatest};
 ghost use Rattle.forms.specs.Answer.{answer, normalised};
+ghost use Rattle.meeting.specs.Meeting.{meetingOf};
 ghost use Rattle.why.specs.Why.{WhyOf};
 use answers::Normal;
 use format::GREATEST;
@@ -13,6 +14,7 @@ use matcher::judge;
 use matcher::judge_floats;
 use matcher::match_floats;
 use matcher::match_list;
+use meeting::meeting;
 use normal::normalise;
 use why::why_not;
 use why::why_not_floats;
@@ -58,6 +60,23 @@ pub extern "C" fn intake_normalise_typed(
     let form: Normal = normalise(template, lower, upper, room);
     *length = form.length;
     form.number
+}
+
+// The meeting of two normal forms under a type, the normal form of what both match, in the same manner.
+#[no_mangle]
+pub extern "C" fn intake_meeting(
+    first: &[u8],
+    second: &[u8],
+    lower: i32,
+    upper: i32,
+    room: &mut [u8],
+    length: &mut usize,
+) -> u8
+    ensures { λ r. ⌜ answer r (now (length .exit)) (now (room .exit)) ≡ meetingOf lower upper (now (first .entry)) (now (second .entry)) (now (room .entry)) ⌝ }
+{
+    let met: Normal = meeting(first, second, lower, upper, room);
+    *length = met.length;
+    met.number
 }
 
 // The matcher's number, and the group that is the reason as a mask, 0 where none is given.
