@@ -14,11 +14,12 @@
 
 enum { LINE_MOST = 16384, ROOM_MOST = 1024, UNTOUCHED = 165 };
 enum { KIND = 4, TEMPLATE, LIST, LENT, FIELDS = 9 }; /* places of fields in a row, and their number */
+enum kind { MATCH, JUDGE, FORM, MEET };
 
-static uint8_t template[INTAKE_TEMPLATE_MOST], witness[INTAKE_LIST_MOST], room[ROOM_MOST];
+static uint8_t template[INTAKE_TEMPLATE_MOST], second[INTAKE_TEMPLATE_MOST], witness[INTAKE_LIST_MOST], room[ROOM_MOST];
 static int32_t list[INTAKE_LIST_MOST];
 static double floats[INTAKE_LIST_MOST];
-static size_t template_length, list_length, witness_length, room_length, form_length;
+static size_t template_length, second_length, list_length, witness_length, room_length, form_length;
 
 static void fail(const char *text)
 {
@@ -26,13 +27,33 @@ static void fail(const char *text)
     exit(2);
 }
 
-static void read_template(const char *hex)
+static enum kind kind_of(const char *field)
+{
+    static const char *const names[] = { "match", "judge", "form", "meet" };
+    for (int kind = MATCH; kind <= MEET; kind++)
+        if (strncmp(field, names[kind], strlen(names[kind])) == 0) return (enum kind)kind;
+    fail("a row is of no kind");
+    return MATCH;
+}
+
+/* The bytes in hex at the front of a text, as many as there are. */
+static size_t read_bytes(const char *hex, uint8_t *to)
 {
     unsigned byte;
-    for (template_length = 0; sscanf(hex, "%2x", &byte) == 1; hex += 2) {
-        if (template_length == sizeof template) fail("a template is too long");
-        template[template_length++] = (uint8_t)byte;
+    size_t count = 0;
+    for (; sscanf(hex, "%2x", &byte) == 1; hex += 2) {
+        if (count == INTAKE_TEMPLATE_MOST) fail("a template is too long");
+        to[count++] = (uint8_t)byte;
     }
+    return count;
+}
+
+/* The template, or the two forms of a meeting, with ` & ` between them. */
+static void read_templates(const char *field)
+{
+    const char *and = strstr(field, " & ");
+    template_length = read_bytes(field, template);
+    second_length = and == NULL ? 0 : read_bytes(and + 3, second);
 }
 
 /* The integers of a field, - for none. */
@@ -77,17 +98,27 @@ static void lend_room(const char *length)
     memset(room, UNTOUCHED, sizeof room);
 }
 
-/* One loop for each kind, so that the kind is not asked for in a turn. */
-static uint8_t call(char kind, bool of_floats, int times)
+/* Not inlined: beside the other loops it would change what a turn of theirs costs. */
+__attribute__((noinline)) static uint8_t meet(int times)
 {
     uint8_t number = 0;
-    if (kind == 'm' && of_floats)
+    for (int i = 0; i < times; i++)
+        number = intake_meeting(template, template_length, second, second_length, INT32_MIN, INT32_MAX, room, room_length, &form_length);
+    return number;
+}
+
+/* One loop for each other kind, so that the kind is not asked for in a turn. */
+static uint8_t call(enum kind kind, bool of_floats, int times)
+{
+    uint8_t number = 0;
+    if (kind == MEET) return meet(times);
+    if (kind == MATCH && of_floats)
         for (int i = 0; i < times; i++) number = intake_match_floats(template, template_length, floats, list_length, room, room_length);
-    else if (kind == 'j' && of_floats)
+    else if (kind == JUDGE && of_floats)
         for (int i = 0; i < times; i++) number = intake_judge_floats(template, template_length, floats, list_length, witness, witness_length);
-    else if (kind == 'm')
+    else if (kind == MATCH)
         for (int i = 0; i < times; i++) number = intake_match(template, template_length, list, list_length, room, room_length);
-    else if (kind == 'j')
+    else if (kind == JUDGE)
         for (int i = 0; i < times; i++) number = intake_judge(template, template_length, list, list_length, witness, witness_length);
     else
         for (int i = 0; i < times; i++) number = intake_normalise(template, template_length, room, room_length, &form_length);
@@ -97,13 +128,14 @@ static uint8_t call(char kind, bool of_floats, int times)
 static void mark(void) { syscall(SYS_getpid); }
 
 /* The number, and what was written: the room without the bytes at its end that are as they were lent, a witness in decimal, a form in hex. */
-static void print_answer(uint8_t number, char kind)
+static void print_answer(uint8_t number, enum kind kind)
 {
-    size_t written = kind == 'j' ? 0 : room_length;
+    bool of_form = kind == FORM || kind == MEET;
+    size_t written = kind == JUDGE ? 0 : room_length;
     while (written > 0 && room[written - 1] == UNTOUCHED) written--;
-    printf("%d%s", number, written == 0 ? "" : kind == 'm' ? ";" : "; ");
-    for (size_t i = 0; i < written; i++) printf(kind == 'm' ? " %d" : "%02x", room[i]);
-    if (kind == 'f' && form_length != written) printf(" but the length %zu", form_length);
+    printf("%d%s", number, written == 0 ? "" : of_form ? "; " : ";");
+    for (size_t i = 0; i < written; i++) printf(of_form ? "%02x" : " %d", room[i]);
+    if (of_form && form_length != written) printf(" but the length %zu", form_length);
     printf("\n");
 }
 
@@ -121,11 +153,11 @@ static void split(char *row, char *fields[FIELDS])
 
 static void make_calls(char *fields[FIELDS])
 {
-    char kind = fields[KIND][0];
+    enum kind kind = kind_of(fields[KIND]);
     bool of_floats = strstr(fields[KIND], " floats") != NULL;
-    read_template(fields[TEMPLATE]);
+    read_templates(fields[TEMPLATE]);
     list_length = of_floats ? read_floats(fields[LIST], floats) : read_integers(fields[LIST], list);
-    if (kind == 'j') read_witness(fields[LENT]);
+    if (kind == JUDGE) read_witness(fields[LENT]);
     else lend_room(fields[LENT]);
     mark();
     call(kind, of_floats, 1);
