@@ -21,11 +21,11 @@ use Rattle.demands.specs.NormalForms.{Accepted, SameIntegers}
 use Rattle.demands.specs.Claims.{IsType}
 use Rattle.demands.proofs.NormalForms.{one-element}
 use Rattle.algebra.specs.Together.{depth, listOf, complementOf, list, complement, Fits}
-use Rattle.algebra.specs.Claims.{Writes, SameForm, Listed, Complemented, Commutes, Groups, Flattens, Idempotent, TwiceTurned, Neither, Meets, Forms, MetBy, MeetingGiven, MeetingOf, EveryMeeting, MeetingRows, MeetsBoth, NeitherMeets, MeetOverList, ListOverMeet}
+use Rattle.algebra.specs.Claims.{Writes, SameForm, Listed, Complemented, Commutes, Groups, Flattens, Idempotent, TwiceTurned, Neither, Meets, Forms, MetBy, MeetingGiven, EveryMeeting, MeetingRows, MeetsBoth, NeitherMeets, MeetOverList, ListOverMeet}
 use Rattle.algebra.specs.Claims as claims
 use Rattle.algebra.proofs.Joins.{joins}
 use Rattle.algebra.proofs.Meetings.{MeetingOutcome, untouched, wrote, meeting-answer, meeting-called, row-number, meeting-outcome}
-use Rattle.algebra.proofs.Written.{FormOf, Written, Met, form-of, good-of, few-of, form-there, writes-form, same-leaves, same-of, writes-inv, meets-inv, meets-of}
+use Rattle.algebra.proofs.Written.{FormOf, Met, form-of, good-of, few-of, form-there, writes-form, same-leaves, same-of, writes-inv, meets-inv, meets-of}
 
 pub listed : Listed
 listed lo hi ss es some parts = joins lo hi false ss es some parts

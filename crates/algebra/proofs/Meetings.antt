@@ -1,16 +1,15 @@
 -- Calls of the meeting: each number with what it was given for. Assumes nothing.
 -- MeetingOutcome lo hi s t room n l after <-> what the meeting's number n was given for: with 0 the form is written, else the room is as it was
-use mathlib.Core.Path.{_≡_, refl, sym, ap, _∙_, subst}
-use mathlib.Core.Bool.{Bool, true, false, not, cond, _&&_}
+use mathlib.Core.Path.{_≡_, refl, sym, _∙_, subst}
+use mathlib.Core.Bool.{false, cond, _&&_}
 use mathlib.Core.List.{List, [], _++_}
 use Prim.Native.Nat.{ℕ, _≤_, _<_}
 use native.Mathlib.Omega.{arith}
 use lib.Dec.{T, ltb}
 use lib.IntN.{ℤ}
-use lib.Signed.{ltZ, _≤ℤ_, ltZ-yes, ltZ-no, clashℤ}
+use lib.Signed.{ltZ, _≤ℤ_, ltZ-yes, clashℤ}
 use lib.ListN.{length, drop}
 use borrow.Author.Tests.{ltb-true, ltb-false, lt-ltb, le-ltb}
-use denote.Ref.{RefT}
 use Rattle.facts.specs.SameLists.{sameBytes}
 use Rattle.facts.proofs.Cases.{by-test, clash, not-so, both, and-left, and-right}
 use Rattle.facts.proofs.SameLists.{same-lists, lists-same}
@@ -25,6 +24,8 @@ use Rattle.forms.proofs.Accepts.{read-inv}
 use Rattle.meeting.specs.Meeting.{both as bothOf, isForm, met, meetRead, meetingOf}
 use Rattle.meeting.proofs.WholeForms.{Under, refusedUnder, readAs, under}
 use Rattle.demands.specs.NormalForms.{Accepted}
+use Rattle.demands.proofs.Calls.{ref}
+use Rattle.demands.proofs.Outcomes.{in-order}
 use Rattle.demands.specs.Claims.{RefusedBy, byLength, byBounds, byScan}
 use Rattle.algebra.specs.Calls.{MeetingCall}
 use Rattle.algebra.specs.Claims.{Forms, MetBy, byFirst, bySecond, byForms, byLeaves, byRoom, EveryMeeting}
@@ -35,9 +36,6 @@ use Rattle.algebra.specs.Claims as claims
 pub meeting-answer : (s t : List ℕ) (lo hi : ℤ) (room : List ℕ) (n l : ℕ) (after : List ℕ) → MeetingCall s t lo hi room n l after → meetingOf lo hi s t room ≡ answer n l after
 meeting-answer s t lo hi room n l after c =
     let p = c .allowed in let a = c .first in let b = c .second in let g = c .lower in let h = c .upper in let d = c .roomThen in let e = c .number in let f = c .size in let i = c .roomNow in cc
-
-ref : {A : Type 0} → A → RefT A
-ref x = record { ptr = (0, 0); name = 0; now = x }
 
 pub meeting-called : EveryMeeting
 unfolding ref
@@ -66,9 +64,6 @@ meeting-called s t lo hi room = go (meetingOf lo hi s t room) refl
     )
 
 -- ---- one input
-
-in-order : (lo hi : ℤ) → ltZ hi lo ≡ false → lo ≤ℤ hi
-in-order lo hi e = ltZ-no (subst T (sym (ap not e)) tt)
 
 not-reversed : (lo hi : ℤ) → lo ≤ℤ hi → ltZ hi lo ≡ false
 not-reversed lo hi o = by-test (ltZ hi lo) (λ e. absurd (clashℤ (ltZ-yes (subst T (sym e) tt)) o)) (λ e. e)

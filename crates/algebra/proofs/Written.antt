@@ -3,13 +3,11 @@
 -- FormOf lo hi e f <-> the bytes f are the normal form of e, and read as what matches the same integers of the type
 -- Written lo hi t f <-> t is accepted, and f is its normal form
 -- Met lo hi s t f <-> s and t are normal forms, and f is that of what both match, which has at most 64 leaves
-use mathlib.Core.Path.{_≡_, refl, sym, ap, _∙_, subst}
-use mathlib.Core.Bool.{Bool, _&&_}
+use mathlib.Core.Path.{_≡_, refl, sym, ap, _∙_}
 use mathlib.Core.List.{List, _++_}
 use Prim.Native.Nat.{ℕ, _≤_, max}
 use native.Mathlib.Omega.{arith}
 use lib.IntN.{ℤ}
-use lib.Signed.{_≤ℤ_}
 use lib.ListN.{length, take, drop, replicate, length-replicate}
 use lib.Seq.{take-at}
 use Rattle.grammar.specs.Element.{Elem, leaves}

@@ -25,7 +25,7 @@ normal-answer t lo hi room n l after c =
 
 -- ---- every input can be lent, and the contract allows an answer
 
-ref : {A : Type 0} → A → RefT A
+unfoldable pub ref : {A : Type 0} → A → RefT A
 ref x = record { ptr = (0, 0); name = 0; now = x }
 
 match-lent : (fam : Family) (t : List ℕ) (xs : List (ElementOf fam)) (room : List ℕ) (r : ℕ) (after : List ℕ) → matchAnswer fam t xs room ≡ given r after → MatchCall fam t xs room r after

@@ -6,5 +6,5 @@
 pub mod Calls
 pub mod NormalForms
 pub mod WholeType
-mod Outcomes
+pub mod Outcomes
 pub mod Claims

@@ -127,7 +127,7 @@ judge-outcome fam t xs w r h =
 
 -- ---- the normaliser
 
-in-order : (lo hi : ℤ) → ltZ hi lo ≡ false → lo ≤ℤ hi
+pub in-order : (lo hi : ℤ) → ltZ hi lo ≡ false → lo ≤ℤ hi
 in-order lo hi e = ltZ-no (subst T (sym (ap not e)) tt)
 
 pub data NormalOutcome (lo hi : ℤ) (t room : List ℕ) (n l : ℕ) (after : List ℕ) : Type 0 where

@@ -3,10 +3,10 @@
 -- sideElem outside rs == the element template that the form written from rs reads as
 -- Side lo hi outside rs f c <-> the form that is written from rs matches what f says of the type from lo to hi; rs ascend, lie in the type, do not hold its lower
 --                       bound, and are c at most
-use mathlib.Core.Path.{_≡_, refl, sym, ap, _∙_}
+use mathlib.Core.Path.{_≡_, ap, _∙_}
 use mathlib.Core.Bool.{Bool, true, false, not, Bool·not-not}
 use mathlib.Core.List.{List}
-use Prim.Native.Nat.{ℕ, _*_, _≤_, _<_, max}
+use Prim.Native.Nat.{ℕ, _*_, _≤_, max}
 use native.Mathlib.Omega.{arith}
 use lib.IntN.{ℤ}
 use lib.Signed.{_≤ℤ_}

@@ -1,6 +1,6 @@
 -- Ascending ranges that hold the same integers of a type have the same form there: the same side, and the same ranges to be written from. Assumes nothing.
 use mathlib.Core.Path.{_≡_, sym, ap, _∙_}
-use mathlib.Core.Bool.{Bool, not}
+use mathlib.Core.Bool.{not}
 use mathlib.Core.List.{List}
 use native.Mathlib.Omega.{arith}
 use lib.IntN.{ℤ}

@@ -1,7 +1,7 @@
 -- The meeting by sides and ranges is the meeting of the definition: what is not in both of two forms, swept and turned, holds just what the element template
 -- complement(complement(A), complement(B)) leaves out; and where one input is no normal form, its refusal or 15 is the answer. Assumes nothing.
 use mathlib.Core.Path.{_≡_, refl, sym, ap, ap₂, _∙_, subst}
-use mathlib.Core.Bool.{Bool, true, false, not, cond, _&&_, _||_, Bool·not-not, or-false, true≢false}
+use mathlib.Core.Bool.{Bool, true, false, not, _&&_, _||_, Bool·not-not, or-false}
 use mathlib.Core.List.{List, [], _++_}
 use Prim.Native.Nat.{ℕ, _≤_, max}
 use native.Mathlib.Omega.{arith}
@@ -9,14 +9,13 @@ use lib.Dec.{ltb}
 use lib.IntN.{ℤ}
 use lib.Signed.{ltZ, _≤ℤ_}
 use lib.ListN.{length}
-use Rattle.facts.specs.SameLists.{sameBytes}
 use Rattle.facts.proofs.Cases.{clash, same-ltb, not-so, and-left, and-right}
 use Rattle.facts.proofs.SameLists.{same-lists, lists-same}
 use Rattle.integers.specs.Integer.{Word}
 use Rattle.grammar.specs.Element.{Elem}
 use Rattle.grammar.specs.Leaf.{Leaf, typedHead}
 use Rattle.grammar.specs.Matches.{matchesBy, matches}
-use Rattle.grammar.specs.Read.{Read, refuse, got}
+use Rattle.grammar.specs.Read.{got}
 use Rattle.grammar.specs.Reading.{readElement}
 use Rattle.ranges.specs.Spans.{Span, holds, Ascending, Proper, gaps, cutTo}
 use Rattle.ranges.specs.Shown.{view}
@@ -24,7 +23,7 @@ use Rattle.ranges.proofs.JoinsAndGaps.{holds-append, holds-gaps, ascending-gaps
 use Rattle.ranges.proofs.Cuts.{word-between}
 use Rattle.forms.specs.Matched.{rangesOf}
 use Rattle.forms.specs.Form.{sideForm, form, normalForm, sideRanges, formLeaves}
-use Rattle.forms.specs.Answer.{answer, placed, readUnder}
+use Rattle.forms.specs.Answer.{answer, readUnder}
 use Rattle.forms.proofs.Accepts.{Good, typed-facts, ordered}
 use Rattle.forms.proofs.FormSides.{sideElem}
 use Rattle.forms.proofs.SameForms.{same-sides, same-forms}

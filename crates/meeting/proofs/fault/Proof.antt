@@ -1,9 +1,9 @@
 -- `meeting::fault` meets its contract: with 578 bytes of room the normaliser's number is 0 exactly where the bytes are read. Assumes nothing.
-use mathlib.Core.Path.{_≡_, refl, _∙_}
+use mathlib.Core.Path.{_≡_}
 use native.Mathlib.Omega.{arith}
 use lib.ListN.{length}
 use borrow.Author.Needs.{needs}
-use Rattle.integers.proofs.SignedLocals.{again, again-same}
+use Rattle.integers.proofs.SignedLocals.{again-same}
 use Rattle.meeting.proofs.WholeForms.{Told, number-told, fault-first, fault-second, fault-neither}
 use Rattle.meeting.proofs.fault.Statement.{statement}
 use Rattle.meeting.proofs.fault.Tie as tie

@@ -2,10 +2,9 @@
 use mathlib.Core.Path.{_≡_, sym, ap, _∙_, subst}
 use mathlib.Core.List.{List}
 use native.Mathlib.Omega.{arith}
-use lib.IntN.{ℤ}
 use lib.ListN.{length}
 use borrow.Author.Needs.{needs}
-use Rattle.integers.proofs.SignedLocals.{again, again-same}
+use Rattle.integers.proofs.SignedLocals.{again-same}
 use Rattle.ranges.specs.Shown.{view}
 use Rattle.ranges.specs.Spans.{Span, Proper, cutTo}
 use Rattle.ranges.proofs.JoinsAndGaps.{proper-of}

@@ -1,10 +1,10 @@
 -- `meeting::meet` meets its contract: what is not in both is found, and what is left is written. Assumes nothing.
-use mathlib.Core.Path.{_≡_, sym, ap, _∙_, subst}
+use mathlib.Core.Path.{sym, ap, _∙_, subst}
 use mathlib.Core.Bool.{_&&_}
 use mathlib.Core.List.{List}
 use native.Mathlib.Omega.{arith}
 use borrow.Author.Needs.{needs}
-use Rattle.integers.proofs.SignedLocals.{again, again-same}
+use Rattle.integers.proofs.SignedLocals.{again-same}
 use Rattle.ranges.specs.Spans.{Span, Ascending}
 use Rattle.mixing.proofs.Turned.{ascending-not-in-both}
 use Rattle.meeting.specs.Contract.{writtenFrom}

@@ -1,17 +1,12 @@
 -- `meeting::meeting` meets its contract: where both inputs are forms their ranges meet, and else the fault is the answer. Assumes nothing.
-use mathlib.Core.Path.{_≡_, refl, sym, ap, _∙_}
-use mathlib.Core.Bool.{true, false, _&&_}
-use mathlib.Core.List.{List}
-use native.Mathlib.Omega.{arith}
+use mathlib.Core.Path.{_≡_, refl, _∙_}
 use lib.IntN.{ℤ}
-use lib.Signed.{ltZ, _≤ℤ_}
+use lib.Signed.{_≤ℤ_}
 use borrow.Author.Needs.{needs}
 use borrow.Author.Tests.{not-true, not-false}
 use Rattle.facts.proofs.Cases.{clash, and-left, and-right}
-use Rattle.integers.specs.Integer.{Word}
 use Rattle.integers.proofs.SignedLocals.{again, again-same}
 use Rattle.forms.proofs.Accepts.{ordered}
-use Rattle.form_reader.specs.FormRead.{FormRead}
 use Rattle.meeting.proofs.Meetings.{meeting-is, fault-is, read-written, read-none, read-held, not-both-forms}
 use Rattle.meeting.proofs.meeting.Statement.{statement}
 use Rattle.meeting.proofs.meeting.Tie as tie
