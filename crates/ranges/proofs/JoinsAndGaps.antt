@@ -227,6 +227,10 @@ pub proper-append : (rs ss : List Span) → Proper rs → Proper ss → Proper (
 proper-append [] ss p q = q
 proper-append (span a b ∷ rs) ss p q = (p .0, p .1, p .2, proper-append rs ss (p .3) q)
 
+pub proper-parts : (rs ss : List Span) → Proper (rs ++ ss) → Proper rs × Proper ss
+proper-parts [] ss p = (tt, p)
+proper-parts (span a b ∷ rs) ss p = let f = proper-parts rs ss (p .3) in ((p .0, p .1, p .2, f .0), f .1)
+
 pub holds-append : (rs ss : List Span) (x : ℤ) → holds (rs ++ ss) x ≡ (holds rs x || holds ss x)
 holds-append [] ss x = refl
 holds-append (r ∷ rs) ss x = ap (λ (t : Bool). inSpan r x || t) (holds-append rs ss x) ∙ sym (or-assoc (inSpan r x) (holds rs x) (holds ss x))
