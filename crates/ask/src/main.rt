@@ -31,6 +31,7 @@ use matcher::match_floats;
 use matcher::match_list;
 use meeting::meeting;
 use normal::normalise;
+use why::Why;
 use why::why_not;
 use why::why_not_floats;
 
@@ -45,9 +46,8 @@ fn of_number(number: u8) -> Answer {
     }
 }
 
-// What the normaliser gives back under the type of these bounds.
-fn of_form(template: &[u8], lower: i32, upper: i32, room: &mut [u8]) -> Answer {
-    let form: Normal = normalise(template, lower, upper, room);
+// What the normaliser and the meeting give back.
+fn of_form(form: Normal) -> Answer {
     Answer {
         number: form.number,
         length: form.length,
@@ -55,13 +55,12 @@ fn of_form(template: &[u8], lower: i32, upper: i32, room: &mut [u8]) -> Answer {
     }
 }
 
-// What the meeting of these forms gives back under the type of these bounds.
-fn of_meeting(first: &[u8], second: &[u8], lower: i32, upper: i32, room: &mut [u8]) -> Answer {
-    let form: Normal = meeting(first, second, lower, upper, room);
+// What the reason for no match gives back.
+fn of_reason(why: Why) -> Answer {
     Answer {
-        number: form.number,
-        length: form.length,
-        group: 0,
+        number: why.number,
+        length: 0,
+        group: why.group,
     }
 }
 
@@ -73,12 +72,7 @@ fn of_integers(kind: usize, template: &[u8], list: &[i32], room: &mut [u8]) -> A
     if kind == JUDGE {
         return of_number(judge(template, list, room));
     }
-    let why = why_not(template, list);
-    Answer {
-        number: why.number,
-        length: 0,
-        group: why.group,
-    }
+    of_reason(why_not(template, list))
 }
 
 // The same for a list of floats.
@@ -89,12 +83,7 @@ fn of_floats(kind: usize, template: &[u8], list: &[f64], room: &mut [u8]) -> Ans
     if kind == JUDGE {
         return of_number(judge_floats(template, list, room));
     }
-    let why = why_not_floats(template, list);
-    Answer {
-        number: why.number,
-        length: 0,
-        group: why.group,
-    }
+    of_reason(why_not_floats(template, list))
 }
 
 // The room of a judgement holds the witness. Of a bad request nothing of this is printed.
@@ -107,10 +96,10 @@ fn answer_of(
     room: &mut [u8],
 ) -> Answer {
     if request.kind == NORMALISE {
-        return of_form(template, request.lower, request.upper, room);
+        return of_form(normalise(template, request.lower, request.upper, room));
     }
     if request.kind == MEETING {
-        return of_meeting(template, second, request.lower, request.upper, room);
+        return of_form(meeting(template, second, request.lower, request.upper, room));
     }
     if request.family == FLOATS {
         return of_floats(request.kind, template, floats, room);
