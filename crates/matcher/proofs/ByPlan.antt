@@ -32,7 +32,8 @@ use Rattle.plans.specs.Plans.{Planned, PlanOf, refusedPlan, aPlan}
 use Rattle.member_rows.specs.Places.{MembersAt}
 use Rattle.matching.specs.Obeys.{rightBytes, noneTwice, bodyMet, lengthMet, obeysBy, Obeys}
 use Rattle.matching.proofs.RulesByBlocks.{Agree, ByBlocks, obeys-says, obeys-test}
-use Rattle.records.specs.Records.{pairOf, Below}
+use Rattle.member_rows.specs.Contract.{pairOf}
+use Rattle.records.specs.Records.{Below}
 use Rattle.witnesses.specs.ByKind.{Allows, OneBlock}
 
 -- ---- the plan of accepted bytes

@@ -20,7 +20,7 @@ use Rattle.grammar.specs.Whole.{readTemplate}
 use Rattle.grammar.specs.Blocks.{Standing}
 use Rattle.plans.specs.declared.Plan.{Plan}
 use Rattle.plans.specs.Plans.{PlanOf}
-use Rattle.records.specs.Records.{pairOf}
+use Rattle.member_rows.specs.Contract.{pairOf}
 use Rattle.witnesses.specs.ByKind.{Allows}
 use Rattle.matching.specs.Obeys.{lengthMet, obeys, Obeys}
 use Rattle.matching.specs.Answer.{given, written, elementOutside, matchAnswer, judgeRead, judgeAnswer, Taken}

@@ -30,7 +30,8 @@ use Rattle.blocks.specs.Pieces.{isOne}
 use Rattle.blocks.proofs.OneMember.{one-parts}
 use Rattle.fronts.specs.Given.{isGroup}
 use Rattle.places.proofs.Backward.{Tested, back-one, back-spares, back-agree}
-use Rattle.records.specs.Records.{pairOf, Sound, Joined, Before, leftOut}
+use Rattle.member_rows.specs.Contract.{pairOf}
+use Rattle.records.specs.Records.{Sound, Joined, Before, leftOut}
 
 -- ---- the rows stay as they are
 

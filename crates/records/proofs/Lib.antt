@@ -3,11 +3,9 @@
 -- PlainCuts == cuts by plain blocks, element by element
 -- Loop      == all blocks, from the last to the first
 -- JoinedRuns == runs of 20s as one 20
--- RowsAndPairs == the rows of a list say of each pair whether it matches
 -- Unique    == the promise allows one result only
 mod Blocks
 mod PlainCuts
 mod Loop
 mod JoinedRuns
-pub mod RowsAndPairs
 pub mod Unique

@@ -1,5 +1,4 @@
--- Which member matches which element, and what is known of the blocks so far, from the last one on. `ok m e` says that member m matches element e of n.
--- pairOf f es xs m e == the member m of es matches the element e of xs, in the family f
+-- What is known of the blocks so far, from the last one on. `ok m e` says that member m matches element e of n.
 -- Below k bs       <-> the members of each block are below k
 -- Sound ok n rows  <-> whoever stands in the row of an element matches it
 -- Joined ok n b before after <-> where the rows `before` are sound the rows `after` are too; they have whom `before` has, and of a block that is not one member all members
@@ -10,20 +9,13 @@ use mathlib.Core.Path.{_≡_}
 use mathlib.Core.Bool.{Bool, true, false, cond}
 use mathlib.Core.List.{List, [], _∷_}
 use Prim.Native.Nat.{ℕ, _+_, _≤_, _<_}
-use lib.ListN.{length, getD}
+use lib.ListN.{length}
 use Rattle.facts.specs.Counting.{between}
 use Rattle.rows.specs.Rows.{may}
 use Rattle.blocks.specs.declared.Block.{Block}
-use Rattle.grammar.specs.Element.{Elem}
-use Rattle.format.specs.declared.Family.{Family}
-use Rattle.grammar.specs.Family.{LeafOf, ElementOf, noElement, matchesOf}
-use Rattle.grammar.specs.Members.{memberHits}
 use Rattle.places.specs.Ways.{Back}
 use Rattle.blocks.specs.Pieces.{isOne}
 use Rattle.fronts.specs.Given.{isGroup}
-
-abbrev pub pairOf : (f : Family) → List (Elem (LeafOf f)) → List (ElementOf f) → ℕ → ℕ → Bool
-pairOf f es xs m e = memberHits (matchesOf f) es m (getD xs e (noElement f))
 
 unfoldable pub Below : ℕ → List Block → Type 0
 Below k [] = Unit {0}

@@ -19,8 +19,8 @@ use Rattle.format.specs.declared.Family.{Family}
 use Rattle.grammar.specs.Family.{LeafOf, ElementOf}
 use Rattle.member_rows.proofs.Agreeing.{Says, rows-say, says-same}
 use Rattle.judging.specs.Reach.{anyPair}
-use Rattle.records.specs.Records.{pairOf}
-use Rattle.records.proofs.RowsAndPairs.{same-pairs}
+use Rattle.member_rows.specs.Contract.{pairOf}
+use Rattle.member_rows.proofs.RowsAndPairs.{same-pairs}
 use Rattle.search_claims.specs.Claims.{Sound, Complete, Least, Unique, Explained, Tested, UniqueCut, UniqueFilling, CutPasses, CutFound, FillingPasses, FillingFound, NothingChanges, ColumnsOf, SameOfEveryPair, PairsOrRows, PairsApart}
 use Rattle.search_claims.proofs.OtherPairs.{cuts-by, cuts-agree, cuts-right}
 

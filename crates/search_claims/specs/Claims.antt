@@ -36,9 +36,8 @@ use Rattle.format.specs.declared.Family.{Family}
 use Rattle.grammar.specs.Element.{Elem}
 use Rattle.grammar.specs.Family.{LeafOf, ElementOf, noElement, matchesOf}
 use Rattle.grammar.specs.Members.{memberHits}
-use Rattle.member_rows.specs.Contract.{RowsOf}
+use Rattle.member_rows.specs.Contract.{pairOf, RowsOf}
 use Rattle.judging.specs.Reach.{anyPair}
-use Rattle.records.specs.Records.{pairOf}
 
 -- ---- assignments
 abbrev pub Sound : Type 0

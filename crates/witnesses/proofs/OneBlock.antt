@@ -18,11 +18,11 @@ use Rattle.rows.specs.Rows.{may}
 use Rattle.grammar.specs.Element.{Elem}
 use Rattle.format.specs.declared.Family.{Family}
 use Rattle.grammar.specs.Family.{LeafOf, ElementOf}
-use Rattle.member_rows.specs.Contract.{RowsOf}
+use Rattle.member_rows.specs.Contract.{pairOf, RowsOf}
 use Rattle.places.specs.Ways.{Agrees}
 use Rattle.places.proofs.Backward.{takes-agree, agrees-turn}
-use Rattle.records.specs.Records.{pairOf, Below}
-use Rattle.records.proofs.RowsAndPairs.{same-pairs}
+use Rattle.records.specs.Records.{Below}
+use Rattle.member_rows.proofs.RowsAndPairs.{same-pairs}
 
 -- ---- a cut by one block is what the block takes
 

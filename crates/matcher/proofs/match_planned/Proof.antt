@@ -12,7 +12,7 @@ use Rattle.grammar.specs.Family.{LeafOf, ElementOf, listOf, Lent}
 use Rattle.grammar.specs.Blocks.{Standing}
 use Rattle.blocks.specs.Numbers.{blocksIn}
 use Rattle.blocks.specs.Pieces.{Best}
-use Rattle.records.specs.Records.{pairOf}
+use Rattle.member_rows.specs.Contract.{pairOf}
 use Rattle.witnesses.specs.ByKind.{Allows}
 use Rattle.plans.specs.Plans.{PlanOf}
 use Rattle.matching.specs.Answer.{Taken}

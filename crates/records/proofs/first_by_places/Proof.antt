@@ -1,7 +1,7 @@
 -- `first_by_places` meets its contract. The loop: the places from which the blocks from j on go on, and the rows of the groups among them. It ends at the first block, or after it
 -- where that is a group. Assumes nothing.
 use native.Mathlib.Omega.{arith}
-use Rattle.records.specs.Records.{pairOf}
+use Rattle.member_rows.specs.Contract.{pairOf}
 use mathlib.Core.Path.{_≡_, refl, sym, _∙_, subst}
 use mathlib.Core.Bool.{Bool, true}
 use mathlib.Core.List.{List}

@@ -16,7 +16,7 @@ use Rattle.element_match.specs.Contract.{ElementAt, OneHit}
 use Rattle.element_match.proofs.Walks.{any-one, leaf-again, integer-one, float-only, integer-at, float-at, integers-listed, floats-listed}
 use Rattle.member_rows.specs.Places.{Served}
 use Rattle.member_rows.proofs.RowByRow.{element-there, member-inside, served-few, served-fit, told-hit}
-use Rattle.records.specs.Records.{pairOf}
+use Rattle.member_rows.specs.Contract.{pairOf}
 use Rattle.records.proofs.PlainCuts.{Tested, tested-start, tested-step, other-length, one-missed, all-tested}
 use Rattle.records.proofs.plain_first.Statement.{statement}
 use Rattle.records.proofs.plain_first.Tie as tie

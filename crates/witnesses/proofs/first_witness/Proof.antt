@@ -8,7 +8,7 @@ use Rattle.member_rows.proofs.RowByRow.{served-few}
 use mathlib.Core.List.{List, [], _∷_}
 use Rattle.blocks.specs.declared.Block.{Block}
 use Rattle.blocks.specs.Pieces.{Cutting}
-use Rattle.records.specs.Records.{pairOf}
+use Rattle.member_rows.specs.Contract.{pairOf}
 use mathlib.Core.Path.{sym, ap, _∙_, subst}
 use Rattle.witnesses.proofs.ByKind.{first-subset, first-blocks}
 use Rattle.witnesses.proofs.OneBlock.{cutting-pairs, filling-pairs, below-one}

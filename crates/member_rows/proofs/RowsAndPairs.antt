@@ -8,10 +8,9 @@ use Rattle.rows.specs.Rows.{may}
 use Rattle.grammar.specs.Element.{Elem}
 use Rattle.format.specs.declared.Family.{Family}
 use Rattle.grammar.specs.Family.{LeafOf, ElementOf, noElement, matchesOf}
-use Rattle.member_rows.specs.Contract.{RowsOf}
 use Rattle.facts.proofs.Cases.{below}
 use Rattle.grammar.proofs.Members.{hits-none}
-use Rattle.records.specs.Records.{pairOf}
+use Rattle.member_rows.specs.Contract.{pairOf, RowsOf}
 
 pub same-pairs : {fam : Family} {es : List (Elem (LeafOf fam))} {xs : List (ElementOf fam)} {rows : List ℕ} → RowsOf fam es xs rows → (m e : ℕ) → e < length xs → may rows m e ≡ pairOf fam es xs m e
 same-pairs {fam} {es} {xs} r m e l = ⊎-elim
