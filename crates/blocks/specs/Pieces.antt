@@ -4,11 +4,13 @@
 -- Takes may b from to p <-> p is an assignment of the elements from .. to - 1 by the block b, with as many spare elements as b allows
 -- CutAt may b rest from to w <-> w is a piece that the block b takes, up to some place, and after it a list of the kind `rest` from that place on
 -- Cuts may bs from to w <-> w assigns the elements from .. to - 1, cut into consecutive pieces, one for each of bs in order
+-- Contains may k n w <-> w gives each of the elements 0 .. n - 1 a member below k that may take it, a member as often as wanted
 -- Fills may k n w <-> w gives each of the elements 0 .. n - 1 a member below k that may take it, and no member twice
 -- isOne b == b is one member and no spare element
 -- Inside bs <-> the members of each block are below 32
 -- Best P n found w <-> the first n bytes of w are the first list of P in byte order, where P has one; every other byte of w is 255
 -- Cutting may bs n found w <-> the first cut in byte order, where there is one; every other byte of w is 255
+-- Containing may k n found w <-> the same of `first_containment`
 -- Filling may k n found w <-> the same of `first_filling`
 -- Passing P r <-> r says whether P holds
 -- Assumes nothing: these are definitions.
@@ -38,6 +40,11 @@ unfoldable pub Cuts : (ℕ → ℕ → Bool) → List Block → ℕ → ℕ → 
 Cuts may [] from to w = (from ≡ to) × (w ≡ [])
 Cuts may (b ∷ bs) from to w = CutAt may b (λ mid v. Cuts may bs mid to v) from to w
 
+pub record Contains (may : ℕ → ℕ → Bool) (k n : ℕ) (w : List ℕ) : Type 0 where
+  pub size : length w ≡ n
+  pub member : (e : ℕ) → e < n → getD w e 0 < k
+  pub right : (e : ℕ) → e < n → may (getD w e 0) e ≡ true
+
 pub record Fills (may : ℕ → ℕ → Bool) (k n : ℕ) (w : List ℕ) : Type 0 where
   pub size : length w ≡ n
   pub member : (e : ℕ) → e < n → getD w e 0 < k
@@ -60,6 +67,9 @@ pub record Best (P : List ℕ → Type 0) (n : ℕ) (found : Bool) (w : List ℕ
 
 abbrev pub Cutting : (ℕ → ℕ → Bool) → List Block → ℕ → Bool → List ℕ → Type 0
 Cutting may bs n found w = Best (Cuts may bs 0 n) n found w
+
+abbrev pub Containing : (ℕ → ℕ → Bool) → ℕ → ℕ → Bool → List ℕ → Type 0
+Containing may k n found w = Best (Contains may k n) n found w
 
 abbrev pub Filling : (ℕ → ℕ → Bool) → ℕ → ℕ → Bool → List ℕ → Type 0
 Filling may k n found w = Best (Fills may k n) n found w

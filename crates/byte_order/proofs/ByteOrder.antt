@@ -1,6 +1,7 @@
 -- Laws of byte order and of firsts, for the crates above. Assumes nothing.
 -- earlier is a strict total order on lists of bytes: earlier-irreflexive, earlier-transitive, earlier-asymmetric, earlier-total.
 -- It looks at the left parts first where they are of one length: earlier-append-same, earlier-append-left, earlier-append-not.
+-- Byte by byte: earlier-at, not-earlier.
 -- The first is unique (first-unique); firsts of sets that are the same are the same (first-same).
 use mathlib.Core.Path.{_≡_, refl, sym, ap, ap₂, _∙_}
 use mathlib.Core.Logic.{_⊎_, inl, inr, ⊎-elim}
@@ -108,6 +109,19 @@ earlier-at (x ∷ xs) [] d la lb same l = absurd (not-suc-le-zero lb)
 earlier-at (x ∷ xs) (y ∷ ys) zero la lb same l = head-less x y xs ys l
 earlier-at (x ∷ xs) (y ∷ ys) (suc d) la lb same l =
     head-same x y xs ys (same 0 (omega arith)) ∙ earlier-at xs ys d (omega arith) (omega arith) (λ i h. same (suc i) (suc-le-suc h)) l
+
+-- no byte is smaller than the other list's at its place
+pub not-earlier : (a b : List ℕ) → length a ≡ length b → ((i : ℕ) → i < length b → getD b i 0 ≤ getD a i 0) → earlier a b ≡ false
+unfolding earlier
+not-earlier [] [] n l = refl
+not-earlier [] (y ∷ ys) n l = absurd (omega arith)
+not-earlier (x ∷ xs) [] n l = absurd (omega arith)
+not-earlier (x ∷ xs) (y ∷ ys) n l =
+    let least : y ≤ x = l 0 (omega arith) in
+    ⊎-elim
+    (λ (h : y < x). earlier-asymmetric (y ∷ ys) (x ∷ xs) (head-less y x ys xs h))
+    (λ (h : x ≤ y). head-same x y xs ys (omega arith) ∙ not-earlier xs ys (omega arith) (λ i h. l (suc i) (suc-le-suc h)))
+    (below y x)
 
 -- ---- firsts
 pub first-unique : {P : List ℕ → Type 0} {v w : List ℕ} → First P v → First P w → v ≡ w
