@@ -18,12 +18,12 @@ use Rattle.byte_order.specs.ByteOrder.{First as FirstOf}
 use Rattle.blocks.specs.Assignment.{allOnce}
 use Rattle.grammar.specs.Element.{Elem}
 use Rattle.grammar.specs.Leaf.{Leaf, singleHead, rangeHead, leafHead, reaches, ofType, typedHead}
-use Rattle.grammar.specs.Family.{LeafOf, ElementOf, RowOf, someOutside}
-use Rattle.grammar.specs.Template.{Template, membersOfGroup, membersOfItem, membersOfItems, membersOf}
+use Rattle.grammar.specs.Family.{LeafOf, ElementOf, ElementRowOf, RowOf, someOutside}
+use Rattle.grammar.specs.Template.{Template, plainly, membersOfGroup, membersOfItem, membersOfItems, membersOf}
 use Rattle.grammar.specs.Record.{countFault, boundsFault, groupHead, head}
 use Rattle.grammar.specs.Read.{Read, refuse, got, ended, mapRead, andThen}
 use Rattle.grammar.specs.Reading.{uncounted, putFirst, thenMore, many, closed, tooDeep, opened, elem, readElement}
-use Rattle.grammar.specs.Whole.{starHere, numbered, putMember, thenMembers, thenStar, putItem, thenItems, clashes, member, members, permutationHere, item, items, contents, bodyHere, lengthHere, typeHere, headsHere, templateHere, readTemplate}
+use Rattle.grammar.specs.Whole.{starHere, numbered, putMember, thenMembers, thenStar, putItem, thenItems, clashes, member, members, permutationHere, item, items, contents, bodyHere, sheetHere, lengthHere, typeHere, restHere, headsHere, templateHere, readTemplate}
 use Rattle.grammar.proofs.RefusalNumbers.{Cases, isRefused, isRead, read-cases, element-cases, template-row, element-row, element-not-nine}
 use Rattle.grammar.specs.Matches.{matchesBy, leafMatches}
 use Rattle.grammar.specs.Members.{memberHits}
@@ -45,7 +45,7 @@ use Rattle.demands.specs.Claims.{Accepts, Refused, Inside, RefusedBy, by
 use Rattle.demands.proofs.Calls.{match-answer, judge-answer, normal-answer, match-called, judge-called, normal-called}
 use Rattle.demands.proofs.NormalForms.{Side, side-of, accepted-side, ascending-in, inside-in, right-in, widest-of, length-normalForm, form-placed, same-integers-same-form, same-form-same-integers, form-of-form, one-element}
 use Rattle.demands.proofs.WholeType as whole-type
-use Rattle.demands.proofs.Outcomes.{ListOutcome, tooLong, tooMany, unfit, rejected, strange, decided, MatchOutcome, left, wrote, row-least, row-most, row-apart, match-outcome, judge-outcome, NormalOutcome, declined, roomShort, formed, normal-outcome}
+use Rattle.demands.proofs.Outcomes.{ListOutcome, tooLong, tooMany, unfit, rejected, strange, decided, MatchOutcome, left, wrote, row-least, row-apart, row-own, match-outcome, judge-outcome, NormalOutcome, declined, roomShort, formed, normal-outcome}
 
 -- ---- demand 1: the rows of the table that matcher and judge share
 
@@ -89,13 +89,13 @@ module _ (fam : Family) (t : List ℕ) (xs : List (ElementOf fam)) (Fit : Type 0
       λ e. (taken, f, subst (Refused fam t) (sym z ∙ e) refusal),
       λ c. z ∙ number-same (readTemplate fam t) m n refusal (c .2),
     );
-    seventeen = (λ e. let last = row-most fam m row in absurd (omega arith), λ c. absurd (not-both (readTemplate fam t) m (c .2 .0) refusal (c .2 .1)));
+    seventeen = (λ e. absurd (row-own fam m row (omega arith)), λ c. absurd (not-both (readTemplate fam t) m (c .2 .0) refusal (c .2 .1)));
     answered = (λ e. absurd (omega arith), λ c. absurd (not-both (readTemplate fam t) m (c .2 .0) refusal (c .2 .1)));
   }
   list-rows (strange taken f s accepted outside z) = record {
     two = (λ e. absurd (omega arith), λ c. absurd (omega arith));
     eleven = (λ e. absurd (omega arith), λ c. absurd (omega arith));
-    refused = λ n p q. (λ e. let last = row-most fam n p in absurd (omega arith), λ c. absurd (not-both (readTemplate fam t) n s (c .2) accepted));
+    refused = λ n p q. (λ e. absurd (row-own fam n p (omega arith)), λ c. absurd (not-both (readTemplate fam t) n s (c .2) accepted));
     seventeen = (λ _. (taken, f, (s, accepted, outside)), λ _. z);
     answered = (λ e. absurd (omega arith), λ c. absurd (apart fam t xs s (c .2 .0) accepted (c .2 .1) outside (c .2 .2)));
   }
@@ -206,23 +206,23 @@ module _ (lo hi : ℤ) (t : List ℕ) where
   refused-unread n e (byScan a u p) o q = not-both (readElement (typedHead lo hi) t) n e p q
 
 module _ (lo hi : ℤ) (t room : List ℕ) (n l : ℕ) (after : List ℕ) where
-  row-number : (r : ℕ) → RowOf Family.Integers r → n ≡ r → (n ≤ 12) ⊎ (n ≡ 16)
+  row-number : (r : ℕ) → ElementRowOf Family.Integers r → n ≡ r → (n ≤ 12) ⊎ (n ≡ 16)
   row-number r (inl row) z = let most = row .1 in inl (omega arith)
   row-number r (inr e) z = inr (omega arith)
 
   given-of : NormalOutcome lo hi t room n l after → NormalGiven lo hi t room n l after
   given-of (declined r q row nine z k a) =
-      let least-row = row-least Family.Integers r row in
+      let least-row = row-least Family.Integers r (inl row) in
       record {
         refused = λ m p. (λ e. subst (RefusedBy lo hi t) (sym z ∙ e) q, λ c. z ∙ refused-once lo hi t r m q c);
-        twelve = (λ e. absurd (row-apart Family.Integers r row (omega arith) (omega arith)), λ c. absurd (refused-unread lo hi t r (c .0) q (c .1) (c .2)));
+        twelve = (λ e. absurd (row-apart Family.Integers r (inl row) (omega arith) (omega arith)), λ c. absurd (refused-unread lo hi t r (c .0) q (c .1) (c .2)));
         done = (λ e. absurd (omega arith), λ c. absurd (refused-unread lo hi t r (c .0) q (c .1) (c .2)));
-        numbers = (row-number r row z, λ e. omega arith, λ e. nine (sym z ∙ e), λ e. row-apart Family.Integers r row (omega arith) (omega arith));
+        numbers = (row-number r row z, λ e. omega arith, λ e. nine (sym z ∙ e), λ e. row-apart Family.Integers r (inl row) (omega arith) (omega arith));
         written = λ e f c. absurd (omega arith);
         untouched = λ _. (k, a);
       }
   given-of (roomShort o e q b z k a) = record {
-    refused = λ m p. (λ f. absurd (row-apart Family.Integers m p (omega arith) (omega arith)), λ c. absurd (refused-unread lo hi t m e c o q));
+    refused = λ m p. (λ f. absurd (row-apart Family.Integers m (inl p) (omega arith) (omega arith)), λ c. absurd (refused-unread lo hi t m e c o q));
     twelve = (λ _. (e, o, q, b), λ _. z);
     done = (λ f. absurd (omega arith), λ c. absurd (wide (c .0) (c .2) (c .3)));
     numbers = (inl (omega arith), λ f. omega arith, λ f. omega arith, λ f. omega arith);
@@ -233,7 +233,7 @@ module _ (lo hi : ℤ) (t room : List ℕ) (n l : ℕ) (after : List ℕ) where
       wide : (f : Elem Leaf) → Accepted lo hi t f → length (normalForm lo hi f) ≤ length room → ⊥
       wide f p h = let s = ap (λ v. length (normalForm lo hi v)) (one-element lo hi t e f q p) in omega arith
   given-of (formed o e q b z k a) = record {
-    refused = λ m p. (λ f. let least-row = row-least Family.Integers m p in absurd (omega arith), λ c. absurd (refused-unread lo hi t m e c o q));
+    refused = λ m p. (λ f. let least-row = row-least Family.Integers m (inl p) in absurd (omega arith), λ c. absurd (refused-unread lo hi t m e c o q));
     twelve = (λ f. absurd (omega arith), λ c. absurd (narrow (c .0) (c .2) (c .3)));
     done = (λ _. (e, o, q, b), λ _. z);
     numbers = (inl (omega arith), λ f. omega arith, λ f. omega arith, λ f. omega arith);
@@ -410,5 +410,5 @@ someIsMatched fam t xs w room after r j l c =
 -- ---- the table
 
 pub asJudged : AsJudged
-unfolding allComeOut comesOut gives forms sameBytes judged signed intAt intBytes between cnt allOnce membersOfGroup membersOfItem membersOfItems membersOf countFault boundsFault groupHead head singleHead rangeHead leafHead reaches ofType ended uncounted putFirst thenMore many closed tooDeep opened elem readElement mapRead starHere numbered putMember thenMembers thenStar putItem thenItems clashes member members permutationHere item items contents bodyHere lengthHere typeHere headsHere andThen templateHere readTemplate matchesBy leafMatches memberHits rightBytes noneTwice allSpare withinBlock starMet groupTakes itemTakes someCut cuts bodyMet lengthMet obeysBy put orElse tryEach firstOf from membersCount firstWitness written someOutside elementOutside matchRead matchAnswer joinAll join gaps gapsFrom cutTo rangesOf recordOf records matchedForm unmatchedForm form normalForm placed readUnder answerTo normalised
+unfolding allComeOut comesOut gives forms sameBytes judged signed intAt intBytes between cnt allOnce membersOfGroup membersOfItem membersOfItems membersOf countFault boundsFault groupHead head singleHead rangeHead leafHead reaches ofType ended uncounted putFirst thenMore many closed tooDeep opened elem readElement mapRead starHere numbered putMember thenMembers thenStar putItem thenItems clashes member members permutationHere item items contents bodyHere sheetHere lengthHere typeHere restHere headsHere andThen templateHere readTemplate matchesBy leafMatches memberHits rightBytes noneTwice allSpare withinBlock starMet groupTakes itemTakes someCut cuts bodyMet lengthMet plainly obeysBy put orElse tryEach firstOf from membersCount firstWitness written someOutside elementOutside matchRead matchAnswer joinAll join gaps gapsFrom cutTo rangesOf recordOf records matchedForm unmatchedForm form normalForm placed readUnder answerTo normalised
 asJudged = refl

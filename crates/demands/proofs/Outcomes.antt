@@ -18,7 +18,7 @@ use Rattle.facts.proofs.Cases.{by-test}
 use Rattle.format.specs.declared.Family.{Family}
 use Rattle.grammar.specs.Element.{Elem}
 use Rattle.grammar.specs.Leaf.{Leaf, typedHead}
-use Rattle.grammar.specs.Family.{LeafOf, ElementOf, RowOf}
+use Rattle.grammar.specs.Family.{LeafOf, ElementOf, ElementRowOf, RowOf}
 use Rattle.grammar.specs.Reading.{readElement}
 use Rattle.grammar.specs.Template.{Template}
 use Rattle.grammar.specs.Whole.{readTemplate}
@@ -46,24 +46,36 @@ pub data MatchOutcome (fam : Family) (t : List ℕ) (xs : List (ElementOf fam)) 
   wrote : Taken t xs → length xs ≤ length room → (s : Template (LeafOf fam)) → Accepts fam t s → Inside fam s xs → (w : List ℕ) → length w ≡ length xs → r ≡ 0 → after ≡ w ++ drop (length xs) room
       → MatchOutcome fam t xs room r after
 
--- of the rows about the bytes of a template none is before 2, none is after 16, and none is 11, 12 or 13
-pub row-least : (fam : Family) (n : ℕ) → RowOf fam n → 2 ≤ n
-row-least Family.Integers n (inl row) = row .0
-row-least Family.Integers n (inr e) = omega arith
-row-least Family.Floats n (inl row) = row .0
-row-least Family.Floats n (inr e) = omega arith
+-- of the rows about the bytes of a template none is before 2, and none is 11, 12, 13 or 17
+element-row-least : (fam : Family) (n : ℕ) → ElementRowOf fam n → 2 ≤ n
+element-row-least Family.Integers n (inl row) = row .0
+element-row-least Family.Integers n (inr e) = omega arith
+element-row-least Family.Floats n (inl row) = row .0
+element-row-least Family.Floats n (inr e) = omega arith
 
-pub row-most : (fam : Family) (n : ℕ) → RowOf fam n → n ≤ 16
-row-most Family.Integers n (inl row) = let most = row .1 in omega arith
-row-most Family.Integers n (inr e) = omega arith
-row-most Family.Floats n (inl row) = let most = row .1 in omega arith
-row-most Family.Floats n (inr e) = omega arith
+pub row-least : (fam : Family) (n : ℕ) → RowOf fam n → 2 ≤ n
+row-least fam n (inl row) = element-row-least fam n row
+row-least fam n (inr e) = omega arith
+
+element-row-apart : (fam : Family) (n : ℕ) → ElementRowOf fam n → 11 ≤ n → n ≤ 13 → ⊥
+element-row-apart Family.Integers n (inl row) p q = let most = row .1 in omega arith
+element-row-apart Family.Integers n (inr e) p q = omega arith
+element-row-apart Family.Floats n (inl row) p q = let most = row .1 in omega arith
+element-row-apart Family.Floats n (inr e) p q = omega arith
 
 pub row-apart : (fam : Family) (n : ℕ) → RowOf fam n → 11 ≤ n → n ≤ 13 → ⊥
-row-apart Family.Integers n (inl row) p q = let most = row .1 in omega arith
-row-apart Family.Integers n (inr e) p q = omega arith
-row-apart Family.Floats n (inl row) p q = let most = row .1 in omega arith
-row-apart Family.Floats n (inr e) p q = omega arith
+row-apart fam n (inl row) p q = element-row-apart fam n row p q
+row-apart fam n (inr e) p q = omega arith
+
+element-row-own : (fam : Family) (n : ℕ) → ElementRowOf fam n → n ≡ 17 → ⊥
+element-row-own Family.Integers n (inl row) z = let most = row .1 in omega arith
+element-row-own Family.Integers n (inr e) z = omega arith
+element-row-own Family.Floats n (inl row) z = let most = row .1 in omega arith
+element-row-own Family.Floats n (inr e) z = omega arith
+
+pub row-own : (fam : Family) (n : ℕ) → RowOf fam n → n ≡ 17 → ⊥
+row-own fam n (inl row) z = element-row-own fam n row z
+row-own fam n (inr e) z = omega arith
 
 -- where the template is short enough, its own refusal is not 2
 own-row : (fam : Family) (t : List ℕ) (n : ℕ) → length t ≤ 4096 → Refused fam t n → 2 < n
@@ -131,7 +143,7 @@ pub in-order : (lo hi : ℤ) → ltZ hi lo ≡ false → lo ≤ℤ hi
 in-order lo hi e = ltZ-no (subst T (sym (ap not e)) tt)
 
 pub data NormalOutcome (lo hi : ℤ) (t room : List ℕ) (n l : ℕ) (after : List ℕ) : Type 0 where
-  declined : (r : ℕ) → RefusedBy lo hi t r → RowOf Family.Integers r → (r ≡ 9 → ⊥) → n ≡ r → l ≡ 0 → after ≡ room → NormalOutcome lo hi t room n l after
+  declined : (r : ℕ) → RefusedBy lo hi t r → ElementRowOf Family.Integers r → (r ≡ 9 → ⊥) → n ≡ r → l ≡ 0 → after ≡ room → NormalOutcome lo hi t room n l after
   roomShort : lo ≤ℤ hi → (e : Elem Leaf) → Accepted lo hi t e → length room < length (normalForm lo hi e) → n ≡ 12 → l ≡ 0 → after ≡ room → NormalOutcome lo hi t room n l after
   formed : lo ≤ℤ hi → (e : Elem Leaf) → Accepted lo hi t e → length (normalForm lo hi e) ≤ length room → n ≡ 0 → l ≡ length (normalForm lo hi e) → after ≡ normalForm lo hi e ++ drop l room
       → NormalOutcome lo hi t room n l after

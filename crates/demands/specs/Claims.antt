@@ -46,7 +46,7 @@ use Rattle.byte_order.specs.ByteOrder.{First as FirstOf}
 use Rattle.integers.specs.Integer.{Word, least, greatest}
 use Rattle.grammar.specs.Element.{Elem, leaves}
 use Rattle.grammar.specs.Leaf.{Leaf, typedHead}
-use Rattle.grammar.specs.Family.{LeafOf, ElementOf, RowOf}
+use Rattle.grammar.specs.Family.{LeafOf, ElementOf, ElementRowOf, RowOf}
 use Rattle.grammar.specs.Template.{Template}
 use Rattle.grammar.specs.Read.{refuse, got}
 use Rattle.grammar.specs.Reading.{readElement}
@@ -113,7 +113,7 @@ pub record JudgeGiven (f : Family) (t : List ℕ) (xs : List (ElementOf f)) (w :
 
 -- "never gives 1, 9, 11 or 13; its 12 comes last, after 10"
 pub record NormalGiven (lo hi : ℤ) (t room : List ℕ) (n l : ℕ) (after : List ℕ) : Type 0 where
-  pub refused : (r : ℕ) → RowOf Family.Integers r → Exactly (n ≡ r) (RefusedBy lo hi t r)
+  pub refused : (r : ℕ) → ElementRowOf Family.Integers r → Exactly (n ≡ r) (RefusedBy lo hi t r)
   pub twelve : Exactly (n ≡ 12) ((e : Elem Leaf) × (lo ≤ℤ hi) × Accepted lo hi t e × (length room < length (normalForm lo hi e)))
   pub done : Exactly (n ≡ 0) ((e : Elem Leaf) × (lo ≤ℤ hi) × Accepted lo hi t e × (length (normalForm lo hi e) ≤ length room))
   pub numbers : ((n ≤ 12) ⊎ (n ≡ 16)) × (n ≡ 1 → ⊥) × (n ≡ 9 → ⊥) × (n ≡ 11 → ⊥)
@@ -127,7 +127,7 @@ pub record Demand1 : Type 0 where
   pub templates : (f : Family) (t : List ℕ) → ((s : Template (LeafOf f)) × Accepts f t s) ⊎ ((n : ℕ) × Refused f t n)
   pub templateRows : (f : Family) (t : List ℕ) (n : ℕ) → Refused f t n → RowOf f n
   pub elements : (lo hi : ℤ) (t : List ℕ) → ((e : Elem Leaf) × Accepted lo hi t e) ⊎ ((n : ℕ) × RefusedAlone lo hi t n)
-  pub elementRows : (lo hi : ℤ) (t : List ℕ) (n : ℕ) → RefusedAlone lo hi t n → RowOf Family.Integers n × (n ≡ 9 → ⊥)
+  pub elementRows : (lo hi : ℤ) (t : List ℕ) (n : ℕ) → RefusedAlone lo hi t n → ElementRowOf Family.Integers n × (n ≡ 9 → ⊥)
 
 -- ---- demand 2
 

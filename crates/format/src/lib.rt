@@ -9,7 +9,7 @@ pub enum Family {
     Floats,
 }
 
-// ---- kinds of records: element templates, bodies, items, the length attribute, the element type
+// ---- kinds of records: element templates, bodies, items, the length attribute, the element type, the sheet
 pub const SINGLE: u8 = 0x01;
 
 pub const RANGE: u8 = 0x02;
@@ -40,6 +40,11 @@ pub const LENGTH: u8 = 0x30;
 
 pub const TYPE: u8 = 0x31;
 
+pub const SHEET: u8 = 0x32;
+
+// No record's kind: in a plan it stands for a subset that sheet 1 reads.
+pub const CONTAINMENT: u8 = 0x14;
+
 // ---- kinds of the program's input
 pub const VALUES: u8 = 0x40;
 
@@ -61,6 +66,8 @@ pub const COUNT_SIZE: usize = 2;
 pub const BOUNDS_SIZE: usize = 3;
 
 pub const TYPE_SIZE: usize = 9;
+
+pub const SHEET_SIZE: usize = 2;
 
 pub const TEMPLATE_SIZE: usize = 3;
 
@@ -101,6 +108,8 @@ pub const LEAF_OUTSIDE: u8 = 16;
 
 pub const ELEMENT_OUTSIDE: u8 = 17;
 
+pub const BAD_SHEET: u8 = 20;
+
 // ---- limits. Leaves and members are numbered from 0, so the last of 64 leaves is 63 and the last of 32 members 31
 pub const TEMPLATE_MOST: usize = 4096;
 
@@ -129,10 +138,14 @@ pub const FORM_MOST: usize = 578;
 
 pub const LAST_MEMBER: usize = 31;
 
-// ---- bytes with a meaning of their own: no bound above, and an element that no member has
+// ---- bytes with a meaning of their own: no bound above, an element that no member has, and the sheets
 pub const INFINITY: u8 = 255;
 
 pub const SPARE: u8 = 255;
+
+pub const PLAIN_SHEET: u8 = 1;
+
+pub const LAST_SHEET: u8 = 2;
 
 // ---- what a scan answers, in one number: a place and, ONE_MORE for each, what was counted up to it; or above FAULT a refusal's number
 pub const ONE_MORE: usize = 0x1_0000;

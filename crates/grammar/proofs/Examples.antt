@@ -17,12 +17,12 @@ use Rattle.floats.specs.Bytes.{floatAt}
 use Rattle.floats.specs.Leaves.{oneFault, boundsFault as rangeFault}
 use Rattle.grammar.specs.Element.{Elem, leaf, oneOf, noneOf, none, more}
 use Rattle.grammar.specs.Template.{membersOfGroup, membersOfItem}
-use Rattle.grammar.specs.Record.{countFault, boundsFault, typeFault, groupHead, head}
+use Rattle.grammar.specs.Record.{countFault, boundsFault, sheetFault, typeFault, groupHead, head}
 use Rattle.grammar.specs.Leaf.{Leaf, singleHead, rangeHead, leafHead, single, range, reaches, ofType, typedHead}
 use Rattle.grammar.specs.FloatLeaf.{oneHead, floatRangeHead, floatHead}
 use Rattle.grammar.specs.Read.{verdict, ended, mapRead, andThen}
 use Rattle.grammar.specs.Reading.{uncounted, putFirst, thenMore, many, closed, tooDeep, opened, elem, readElement}
-use Rattle.grammar.specs.Whole.{starHere, numbered, putMember, thenMembers, thenStar, putItem, thenItems, clashes, member, members, permutationHere, item, items, contents, bodyHere, lengthHere, typeHere, headsHere, templateHere, readTemplate}
+use Rattle.grammar.specs.Whole.{starHere, numbered, putMember, thenMembers, thenStar, putItem, thenItems, clashes, member, members, permutationHere, item, items, contents, bodyHere, sheetHere, lengthHere, typeHere, restHere, headsHere, templateHere, readTemplate}
 use Rattle.grammar.specs.Matches.{matchesBy, leafMatches, matches}
 
 data Row : Type 0 where
@@ -146,7 +146,7 @@ elements =
     []
 
 templates-right : right (λ s. verdict (readTemplate Family.Integers s)) templates ≡ true
-unfolding right repeat templates signed intAt membersOfGroup membersOfItem countFault boundsFault groupHead head singleHead rangeHead leafHead verdict ended uncounted putFirst thenMore many closed tooDeep opened elem mapRead starHere numbered putMember thenMembers thenStar putItem thenItems clashes member members permutationHere item items contents bodyHere lengthHere typeHere typeFault headsHere andThen reaches ofType templateHere readTemplate
+unfolding right repeat templates signed intAt membersOfGroup membersOfItem countFault boundsFault groupHead head singleHead rangeHead leafHead verdict ended uncounted putFirst thenMore many closed tooDeep opened elem mapRead starHere numbered putMember thenMembers thenStar putItem thenItems clashes member members permutationHere item items contents bodyHere sheetHere lengthHere typeHere typeFault restHere headsHere andThen reaches ofType templateHere readTemplate
 templates-right = refl
 
 elements-right : right (λ s. verdict (readElement leafHead s)) elements ≡ true
@@ -188,8 +188,32 @@ typed =
     []
 
 typed-right : right (λ s. verdict (readTemplate Family.Integers s)) typed ≡ true
-unfolding right repeat bytesOf day typed signed intAt membersOfGroup membersOfItem countFault boundsFault typeFault groupHead head singleHead rangeHead leafHead reaches ofType verdict ended uncounted putFirst thenMore many closed tooDeep opened elem mapRead andThen starHere numbered putMember thenMembers thenStar putItem thenItems clashes member members permutationHere item items contents bodyHere lengthHere typeHere headsHere templateHere readTemplate
+unfolding right repeat bytesOf day typed signed intAt membersOfGroup membersOfItem countFault boundsFault typeFault groupHead head singleHead rangeHead leafHead reaches ofType verdict ended uncounted putFirst thenMore many closed tooDeep opened elem mapRead andThen starHere numbered putMember thenMembers thenStar putItem thenItems clashes member members permutationHere item items contents bodyHere sheetHere lengthHere typeHere restHere headsHere templateHere readTemplate
 typed-right = refl
+
+-- ---- sheets
+
+sheets : List Row
+sheets =
+    row 0 (0x32 ∷ 0x01 ∷ 0x13 ∷ 0x01 ∷ 0x03 ∷ []) ∷
+    row 0 (0x32 ∷ 0x02 ∷ 0x10 ∷ 0x00 ∷ []) ∷
+    row 0 (0x32 ∷ 0x01 ∷ 0x30 ∷ 0x00 ∷ 0xff ∷ day (0x13 ∷ 0x01 ∷ 0x03 ∷ [])) ∷  -- before a 30 and a 31, and no 9 for a subset
+    row 9 (0x32 ∷ 0x02 ∷ 0x30 ∷ 0x00 ∷ 0x02 ∷ 0x13 ∷ 0x01 ∷ 0x03 ∷ []) ∷
+    row 9 (0x30 ∷ 0x00 ∷ 0xff ∷ 0x13 ∷ 0x01 ∷ 0x03 ∷ []) ∷
+    row 9 (0x32 ∷ 0x01 ∷ 0x30 ∷ 0x00 ∷ 0xff ∷ 0x12 ∷ 0x01 ∷ 0x03 ∷ []) ∷  -- a superset under either sheet
+    row 3 (0x32 ∷ []) ∷
+    row 20 (0x32 ∷ 0x00 ∷ []) ∷
+    row 20 (0x32 ∷ 0x03 ∷ 0xff ∷ []) ∷  -- at its own record, before what follows
+    row 3 (0x32 ∷ 0x01 ∷ []) ∷
+    row 4 (0x32 ∷ 0x01 ∷ 0x32 ∷ 0x01 ∷ 0x10 ∷ 0x00 ∷ []) ∷  -- twice
+    row 4 (0x30 ∷ 0x00 ∷ 0xff ∷ 0x32 ∷ 0x05 ∷ []) ∷  -- too late: its value is not looked at
+    row 4 (day (0x32 ∷ 0x01 ∷ 0x10 ∷ 0x00 ∷ [])) ∷
+    row 10 (0x10 ∷ 0x00 ∷ 0x32 ∷ 0x01 ∷ []) ∷
+    []
+
+sheets-right : right (λ s. verdict (readTemplate Family.Integers s)) sheets ≡ true
+unfolding right bytesOf day sheets signed intAt membersOfGroup countFault boundsFault sheetFault typeFault head leafHead reaches ofType verdict ended uncounted opened elem mapRead andThen numbered putMember thenMembers clashes member members items contents bodyHere sheetHere lengthHere typeHere restHere headsHere templateHere readTemplate
+sheets-right = refl
 
 hours : List Row
 hours =
@@ -242,7 +266,7 @@ ofFloats =
     []
 
 of-floats-right : right (λ s. verdict (readTemplate Family.Floats s)) ofFloats ≡ true
-unfolding right repeat bytesOf day floatOf zero-then one-then infinity-then nan-then ofFloats ofBits isNan lt floatAt oneFault rangeFault oneHead floatRangeHead floatHead membersOfItem countFault groupHead head verdict ended uncounted putFirst thenMore many closed tooDeep opened elem mapRead numbered putItem thenItems clashes member item items contents bodyHere lengthHere typeHere headsHere andThen templateHere readTemplate
+unfolding right repeat bytesOf day floatOf zero-then one-then infinity-then nan-then ofFloats ofBits isNan lt floatAt oneFault rangeFault oneHead floatRangeHead floatHead membersOfItem countFault groupHead head verdict ended uncounted putFirst thenMore many closed tooDeep opened elem mapRead numbered putItem thenItems clashes member item items contents bodyHere sheetHere lengthHere typeHere restHere headsHere andThen templateHere readTemplate
 of-floats-right = refl
 
 -- ---- when an element matches

@@ -15,10 +15,10 @@ use Rattle.grammar.specs.Element.{Elem}
 use Rattle.grammar.specs.Template.{Star, noStar, star, Group, grouped, Item, one, permutation, Body, recordOf, setOf, superset, subset, Heads, noHeads, InOrder, Template, template, membersOfGroup, membersOfItem, membersOfItems, membersOf}
 use Rattle.format.specs.declared.Family.{Family}
 use Rattle.grammar.specs.Family.{LeafOf, hasTypes, leavesIn}
-use Rattle.grammar.specs.Record.{Head, fault, leafHere, group, kindOf, outside, countFault, boundsFault, typeFault, head}
+use Rattle.grammar.specs.Record.{Head, fault, leafHere, group, kindOf, outside, countFault, boundsFault, sheetFault, typeFault, head}
 use Rattle.grammar.specs.Read.{Read, refuse, got, orRefuse, refuseOr, ended, mapRead, andThen}
 use Rattle.grammar.specs.Reading.{uncounted, outermost}
-use Rattle.grammar.specs.Whole.{asSpares, starHere, fewest, clashes, numbered, putMember, thenMembers, thenStar, putItem, thenItems, member, members, permutationHere, item, items, contents, bodyHere, lengthHere, typeHere, headsHere, templateHere, readTemplate}
+use Rattle.grammar.specs.Whole.{asSpares, starHere, fewest, clashes, numbered, putMember, thenMembers, thenStar, putItem, thenItems, member, members, permutationHere, item, items, contents, bodyHere, sheetHere, lengthHere, typeHere, restHere, headsHere, templateHere, readTemplate}
 use Rattle.grammar.proofs.ReadApart.{clash}
 
 -- P holds of whatever was read
@@ -142,7 +142,7 @@ module _ {L : Type 0} (leaves : List ℕ → Head L) where
       either FewTemplate (eqb (length s) 0) (refuse 3) _ tt
       (either FewTemplate (outside 16 19 (kindOf s)) (refuse 4) _ tt
       (unless FewTemplate (countFault (fewest (kindOf s)) 32 s) _
-      (either FewTemplate (clashes (h .length) (kindOf s) (getD s 1 0)) (refuse 9) _ tt
+      (either FewTemplate (clashes (h .sheet) (h .length) (kindOf s) (getD s 1 0)) (refuse 9) _ tt
       (mapped FewBody FewTemplate (template h) (λ b f. f) _ (contents-few (kindOf s) (getD s 1 0) (drop 2 s))))))
 
 module _ (fam : Family) where
@@ -177,6 +177,10 @@ headsOf (template h b) = h
 abbrev TypeInOrder : {L : Type 0} → Template L → Type 0
 TypeInOrder t = InOrder (headsOf t)
 
+sheet-order : (h : Heads) (s : List ℕ) → InOrder h → Holds InOrder (sheetHere h s)
+unfolding sheetHere
+sheet-order h s o = either InOrder (eqb (kindOf s) 50) _ _ (unless InOrder (sheetFault s) _ o) o
+
 length-order : (h : Heads) (s : List ℕ) → InOrder h → Holds InOrder (lengthHere h s)
 unfolding lengthHere
 length-order h s o = either InOrder (eqb (kindOf s) 48) _ _ (unless InOrder (boundsFault s) _ o) o
@@ -185,18 +189,24 @@ type-order : (fam : Family) (h : Heads) (s : List ℕ) → InOrder h → Holds I
 unfolding typeHere typeFault
 type-order fam h s o = either InOrder (hasTypes fam && eqb (kindOf s) 49) _ _ (read (ltb (length s) 9) (ltZ (intAt s 5) (intAt s 1)) refl) o
   where
-    read : (a b : Bool) → ltZ (intAt s 5) (intAt s 1) ≡ b → Holds InOrder (refuseOr (cond a 3 (cond b 6 0)) (got (record { length = h .length; lower = intAt s 1; upper = intAt s 5 }) (drop 9 s)))
+    read : (a b : Bool) → ltZ (intAt s 5) (intAt s 1) ≡ b → Holds InOrder (refuseOr (cond a 3 (cond b 6 0)) (got (record { sheet = h .sheet; length = h .length; lower = intAt s 1; upper = intAt s 5 }) (drop 9 s)))
     read true b e = tt
     read false true e = tt
     read false false e = (word-intAt s 1, word-intAt s 5, e)
 
+-- heads in order, and more after them that keep it
+then-order : (next : Heads → List ℕ → Read Heads) → ((h : Heads) (s : List ℕ) → InOrder h → Holds InOrder (next h s)) → (o : Read Heads) → Holds InOrder o → Holds InOrder (andThen o next)
+unfolding andThen
+then-order next k (refuse r) f = tt
+then-order next k (got h s) f = k h s f
+
+rest-order : (fam : Family) (h : Heads) (s : List ℕ) → InOrder h → Holds InOrder (restHere fam h s)
+unfolding restHere
+rest-order fam h s o = then-order (typeHere fam) (type-order fam) (lengthHere h s) (length-order h s o)
+
 heads-order : (fam : Family) (s : List ℕ) → Holds InOrder (headsHere fam s)
-unfolding headsHere andThen
-heads-order fam s = go (lengthHere noHeads s) (length-order noHeads s (omega arith, omega arith, refl))
-  where
-    go : (o : Read Heads) → Holds InOrder o → Holds InOrder (andThen o (typeHere fam))
-    go (refuse r) f = tt
-    go (got h s′) f = type-order fam h s′ f
+unfolding headsHere
+heads-order fam s = then-order (restHere fam) (rest-order fam) (sheetHere noHeads s) (sheet-order noHeads s (omega arith, omega arith, refl))
 
 module _ {L : Type 0} (leaves : List ℕ → Head L) where
   body-order : (h : Heads) (s : List ℕ) → InOrder h → Holds TypeInOrder (bodyHere leaves h s)
@@ -205,7 +215,7 @@ module _ {L : Type 0} (leaves : List ℕ → Head L) where
       either TypeInOrder (eqb (length s) 0) (refuse 3) _ tt
       (either TypeInOrder (outside 16 19 (kindOf s)) (refuse 4) _ tt
       (unless TypeInOrder (countFault (fewest (kindOf s)) 32 s) _
-      (either TypeInOrder (clashes (h .length) (kindOf s) (getD s 1 0)) (refuse 9) _ tt
+      (either TypeInOrder (clashes (h .sheet) (h .length) (kindOf s) (getD s 1 0)) (refuse 9) _ tt
       (mapped (λ (b : Body L). Unit {0}) TypeInOrder (template h) (λ b f. o) _ (any (contents leaves (kindOf s) (getD s 1 0) (drop 2 s)))))))
     where
       any : (o : Read (Body L)) → Holds (λ (b : Body L). Unit {0}) o

@@ -26,13 +26,13 @@ use Rattle.format.specs.declared.Family.{Family}
 use Rattle.grammar.specs.Element.{Elem, Elems, leaf}
 use Rattle.grammar.specs.Template.{Star, noStar, star, Group, grouped, Item, one, permutation, recordOf, setOf, superset, subset, Heads, noHeads, template, membersOfGroup, membersOfItem}
 use Rattle.format.specs.Bounds.{badBounds}
-use Rattle.grammar.specs.Record.{Head, fault, leafHere, group, kindOf, outside, countFault, boundsFault, typeFault, faultOr, groupHead, head}
+use Rattle.grammar.specs.Record.{Head, fault, leafHere, group, kindOf, outside, countFault, boundsFault, sheetFault, typeFault, faultOr, groupHead, head}
 use Rattle.grammar.specs.Leaf.{Leaf, single, range, any, singleHead, rangeHead, leafHead, reaches, ofType, typedHead}
 use Rattle.grammar.specs.FloatLeaf.{boundsAt, oneHead, floatRangeHead, floatHead}
-use Rattle.grammar.specs.Family.{LeafOf, hasTypes, leavesIn, RowOf}
+use Rattle.grammar.specs.Family.{LeafOf, hasTypes, leavesIn, ElementRowOf, RowOf}
 use Rattle.grammar.specs.Read.{Read, refuse, got, orRefuse, refuseOr, ended, limited, mapRead, andThen}
 use Rattle.grammar.specs.Reading.{Counted, counted, uncounted, putFirst, thenMore, many, closed, tooDeep, opened, elem, outermost, readElement}
-use Rattle.grammar.specs.Whole.{asSpares, hasStar, starHere, fewest, clashes, numbered, putMember, thenMembers, thenStar, putItem, thenItems, member, members, permutationHere, item, items, contents, bodyHere, lengthHere, typeHere, headsHere, templateHere, readTemplate}
+use Rattle.grammar.specs.Whole.{asSpares, hasStar, starHere, fewest, clashes, numbered, putMember, thenMembers, thenStar, putItem, thenItems, member, members, permutationHere, item, items, contents, bodyHere, sheetHere, lengthHere, typeHere, restHere, headsHere, templateHere, readTemplate}
 
 abbrev OwnRow : Family → (ℕ → Type 0) → Type 0
 OwnRow Family.Integers Q = Q 16
@@ -255,7 +255,7 @@ module _ (Q : ℕ → Type 0) where
           read-either (eqb (length s) 0) (refuse 3) _ (row .r3)
           (read-either (outside 16 19 (kindOf s)) (refuse 4) _ (row .r4)
           (count-numbers (fewest (kindOf s)) 32 s _
-          (read-either (clashes (h .length) (kindOf s) (getD s 1 0)) (refuse 9) _ r9
+          (read-either (clashes (h .sheet) (h .length) (kindOf s) (getD s 1 0)) (refuse 9) _ r9
           (mapped (template h) _ (contents-numbers (kindOf s) (getD s 1 0) (drop 2 s))))))
 
   -- ---- the heads, and a whole template
@@ -270,17 +270,34 @@ module _ (Q : ℕ → Type 0) where
         go false true = row .r6
         go false false = p
 
-    heads-numbers : (s : List ℕ) → Refusals Q (headsHere fam s)
-    unfolding headsHere lengthHere typeHere andThen
-    heads-numbers s = go (lengthHere noHeads s) (read-either (eqb (kindOf s) 48) _ _ (bounds-numbers fam least greatest row s _ tt) tt)
-      where
-        go : (o : Read Heads) → Refusals Q o → Refusals Q (andThen o (typeHere fam))
-        go (refuse r) x = x
-        go (got h s′) x = read-either (hasTypes fam && eqb (kindOf s′) 49) _ _ (type-numbers s′ _ tt) tt
+    then-numbers : (next : Heads → List ℕ → Read Heads) → ((h : Heads) (s : List ℕ) → Refusals Q (next h s)) → (o : Read Heads) → Refusals Q o → Refusals Q (andThen o next)
+    unfolding andThen
+    then-numbers next k (refuse r) x = x
+    then-numbers next k (got h s) x = k h s
 
-    whole-numbers : Q 9 → (s : List ℕ) → Refusals Q (templateHere fam s)
+    rest-numbers : (h : Heads) (s : List ℕ) → Refusals Q (restHere fam h s)
+    unfolding restHere lengthHere typeHere
+    rest-numbers h s =
+        then-numbers (typeHere fam) (λ h′ s′. read-either (hasTypes fam && eqb (kindOf s′) 49) _ _ (type-numbers s′ _ tt) tt) (lengthHere h s)
+        (read-either (eqb (kindOf s) 48) _ _ (bounds-numbers fam least greatest row s _ tt) tt)
+
+    module _ (r20 : Q 20) where
+      sheet-numbers : (s : List ℕ) {A : Type 0} (o : Read A) → Refusals Q o → Refusals Q (refuseOr (sheetFault s) o)
+      unfolding sheetFault
+      sheet-numbers s o p = go (ltb (length s) 2) (outside 1 2 (getD s 1 0))
+        where
+          go : (a b : Bool) → Refusals Q (refuseOr (cond a 3 (cond b 20 0)) o)
+          go true b = row .r3
+          go false true = r20
+          go false false = p
+
+      heads-numbers : (s : List ℕ) → Refusals Q (headsHere fam s)
+      unfolding headsHere sheetHere
+      heads-numbers s = then-numbers (restHere fam) rest-numbers (sheetHere noHeads s) (read-either (eqb (kindOf s) 50) _ _ (sheet-numbers s _ tt) tt)
+
+    whole-numbers : Q 9 → Q 20 → (s : List ℕ) → Refusals Q (templateHere fam s)
     unfolding templateHere andThen
-    whole-numbers r9 s = go (headsHere fam s) (heads-numbers s)
+    whole-numbers r9 r20 s = go (headsHere fam s) (heads-numbers r20 s)
       where
         go : (o : Read Heads) → Refusals Q o → Refusals Q (andThen o (λ h. bodyHere (leavesIn fam (h .lower) (h .upper)) h))
         go (refuse r) x = x
@@ -301,51 +318,60 @@ whole Q s o p2 p10 h = go (ltb 4096 (length s)) refl o h
 refused-so : {A : Type 0} (Q : ℕ → Type 0) (o : Read A) (r : ℕ) → Refusals Q o → o ≡ refuse r → Q r
 refused-so Q o r h e = subst (λ u. Refusals Q u) e h
 
--- the rows about the bytes of an input themselves; 2 only where it is too long
-pub record TableRow (fam : Family) (s : List ℕ) (r : ℕ) : Type 0 where
-  pub row : RowOf fam r
+-- the rows P about the bytes of an input; 2 only where it is too long
+pub record TableRow (P : ℕ → Type 0) (s : List ℕ) (r : ℕ) : Type 0 where
+  pub row : P r
   pub long : r ≡ 2 → 4096 < length s
 
-row-of : (fam : Family) (r : ℕ) → 2 ≤ r → r ≤ 10 → RowOf fam r
+row-of : (fam : Family) (r : ℕ) → 2 ≤ r → r ≤ 10 → ElementRowOf fam r
 row-of Family.Integers r p q = inl (p, q)
 row-of Family.Floats r p q = inl (p, q)
 
-table-row : (fam : Family) (s : List ℕ) (r : ℕ) → 3 ≤ r → r ≤ 10 → TableRow fam s r
-table-row fam s r p q = record { row = row-of fam r (omega arith) q; long = λ e. absurd (omega arith) }
+-- P has the rows about element templates
+abbrev HasRows : Family → (ℕ → Type 0) → Type 0
+HasRows fam P = (r : ℕ) → ElementRowOf fam r → P r
 
-own-row : (fam : Family) (s : List ℕ) → OwnRow fam (TableRow fam s)
-own-row Family.Integers s = record { row = inr refl; long = λ e. absurd (omega arith) }
-own-row Family.Floats s = record { row = inr refl; long = λ e. absurd (omega arith) }
+own-row : (fam : Family) (P : ℕ → Type 0) → HasRows fam P → (s : List ℕ) → OwnRow fam (TableRow P s)
+own-row Family.Integers P has s = record { row = has 16 (inr refl); long = λ e. absurd (omega arith) }
+own-row Family.Floats P has s = record { row = has 14 (inr refl); long = λ e. absurd (omega arith) }
 
-table-rows : (fam : Family) (s : List ℕ) → Row fam (TableRow fam s)
-table-rows fam s = record {
-  r3 = table-row fam s 3 (omega arith) (omega arith);
-  r4 = table-row fam s 4 (omega arith) (omega arith);
-  r5 = table-row fam s 5 (omega arith) (omega arith);
-  r6 = table-row fam s 6 (omega arith) (omega arith);
-  r7 = table-row fam s 7 (omega arith) (omega arith);
-  r8 = table-row fam s 8 (omega arith) (omega arith);
-  own = own-row fam s;
-}
+module _ (fam : Family) (P : ℕ → Type 0) (has : HasRows fam P) (s : List ℕ) where
+  table-row : (r : ℕ) → 3 ≤ r → r ≤ 10 → TableRow P s r
+  table-row r p q = record { row = has r (row-of fam r (omega arith) q); long = λ e. absurd (omega arith) }
 
-too-long : (fam : Family) (s : List ℕ) → 4096 < length s → TableRow fam s 2
-too-long fam s h = record { row = row-of fam 2 (omega arith) (omega arith); long = λ e. h }
+  table-rows : Row fam (TableRow P s)
+  table-rows = record {
+    r3 = table-row 3 (omega arith) (omega arith);
+    r4 = table-row 4 (omega arith) (omega arith);
+    r5 = table-row 5 (omega arith) (omega arith);
+    r6 = table-row 6 (omega arith) (omega arith);
+    r7 = table-row 7 (omega arith) (omega arith);
+    r8 = table-row 8 (omega arith) (omega arith);
+    own = own-row fam P has s;
+  }
 
-pub template-row : (fam : Family) (s : List ℕ) (r : ℕ) → readTemplate fam s ≡ refuse r → TableRow fam s r
+  too-long : 4096 < length s → TableRow P s 2
+  too-long h = record { row = has 2 (row-of fam 2 (omega arith) (omega arith)); long = λ e. h }
+
+pub template-row : (fam : Family) (s : List ℕ) (r : ℕ) → readTemplate fam s ≡ refuse r → TableRow (RowOf fam) s r
 unfolding readTemplate
 template-row fam s r e =
-    refused-so (TableRow fam s) (readTemplate fam s) r
-    (whole (TableRow fam s) s (templateHere fam s) (too-long fam s) (table-row fam s 10 (omega arith) (omega arith))
-    (whole-numbers (TableRow fam s) fam (table-rows fam s) (table-row fam s 9 (omega arith) (omega arith)) s)) e
+    let has : HasRows fam (RowOf fam) = λ n p. inl p in
+    let twenty : TableRow (RowOf fam) s 20 = record { row = inr refl; long = λ z. absurd (omega arith) } in
+    refused-so (TableRow (RowOf fam) s) (readTemplate fam s) r
+    (whole (TableRow (RowOf fam) s) s (templateHere fam s) (too-long fam (RowOf fam) has s) (table-row fam (RowOf fam) has s 10 (omega arith) (omega arith))
+    (whole-numbers (TableRow (RowOf fam) s) fam (table-rows fam (RowOf fam) has s) (table-row fam (RowOf fam) has s 9 (omega arith) (omega arith)) twenty s)) e
 
 element-numbers : (Q : ℕ → Type 0) (lo hi : ℤ) (s : List ℕ) → Row Family.Integers Q → (4096 < length s → Q 2) → Q 10 → Refusals Q (readElement (typedHead lo hi) s)
 unfolding readElement
 element-numbers Q lo hi s row p2 p10 = whole Q s (uncounted (outermost (typedHead lo hi) s)) p2 p10 (uncounted-numbers Q (outermost (typedHead lo hi) s) (elem-numbers Q Family.Integers lo hi row 8 0 s))
 
-pub element-row : (lo hi : ℤ) (s : List ℕ) (r : ℕ) → readElement (typedHead lo hi) s ≡ refuse r → TableRow Family.Integers s r
+pub element-row : (lo hi : ℤ) (s : List ℕ) (r : ℕ) → readElement (typedHead lo hi) s ≡ refuse r → TableRow (ElementRowOf Family.Integers) s r
 element-row lo hi s r e =
-    refused-so (TableRow Family.Integers s) (readElement (typedHead lo hi) s) r
-    (element-numbers (TableRow Family.Integers s) lo hi s (table-rows Family.Integers s) (too-long Family.Integers s) (table-row Family.Integers s 10 (omega arith) (omega arith))) e
+    let P = ElementRowOf Family.Integers in
+    let has : HasRows Family.Integers P = λ n p. p in
+    refused-so (TableRow P s) (readElement (typedHead lo hi) s) r
+    (element-numbers (TableRow P s) lo hi s (table-rows Family.Integers P has s) (too-long Family.Integers P has s) (table-row Family.Integers P has s 10 (omega arith) (omega arith))) e
 
 -- row 9 is found only at a body: no record of an element template has it
 not-nine : Row Family.Integers (λ r. r ≡ 9 → ⊥)
@@ -379,7 +405,7 @@ above-zero fam = record { r3 = omega arith; r4 = omega arith; r5 = omega arith; 
 
 pub read-cases : (fam : Family) (s : List ℕ) → Cases (readTemplate fam s)
 unfolding readTemplate
-read-cases fam s = cases-of s (templateHere fam s) (whole-numbers (λ r. 0 < r) fam (above-zero fam) (omega arith) s)
+read-cases fam s = cases-of s (templateHere fam s) (whole-numbers (λ r. 0 < r) fam (above-zero fam) (omega arith) (omega arith) s)
 
 pub element-cases : (lo hi : ℤ) (s : List ℕ) → Cases (readElement (typedHead lo hi) s)
 unfolding readElement

@@ -5,16 +5,18 @@
 -- blocksOfItems m is == the items of a record of, the first of whose members is m
 -- blocksOf b        == a body; a superset allows any number of spare elements, a subset is one block of its members
 -- bodyKind b          == the kind byte of the body b
+-- kindRead h b      == the kind of the body b as its sheet reads it: that of its record, but for a subset under sheet 1 0x14, which is no record's
 -- lowOf a, highOf a == the least and the greatest length that the length attribute allows; 0 and 255 without one
 -- StandsAt f t p e   <-> the element template e of the family f stands at the place p of the bytes t
 -- Standing f t es ps <-> each of es stands at its place of ps
 -- Assumes nothing: these are definitions.
 use mathlib.Core.Path.{_≡_}
+use mathlib.Core.Bool.{cond}
 use mathlib.Core.List.{List, [], _∷_}
 use Prim.Native.Nat.{ℕ, _+_, _≤_}
 use lib.ListN.{length, drop}
 use Rattle.grammar.specs.Element.{Elem}
-use Rattle.grammar.specs.Template.{Star, noStar, star, Group, grouped, Item, one, spares, permutation, Body, recordOf, setOf, superset, subset, Length, anyLength, between, membersOfItem}
+use Rattle.grammar.specs.Template.{Star, noStar, star, Group, grouped, Item, one, spares, permutation, Body, recordOf, setOf, superset, subset, Length, anyLength, between, Heads, plainly, membersOfItem}
 use Rattle.format.specs.declared.Family.{Family}
 use Rattle.grammar.specs.Family.{LeafOf, leavesOf}
 use Rattle.grammar.specs.Read.{got}
@@ -53,6 +55,9 @@ bodyKind (recordOf is) = 0x10
 bodyKind (setOf g) = 0x11
 bodyKind (superset es) = 0x12
 bodyKind (subset es) = 0x13
+
+unfoldable pub kindRead : {L : Type 0} → Heads → Body L → ℕ
+kindRead h b = cond (plainly h b) 0x14 (bodyKind b)
 
 abbrev pub lowOf : Length → ℕ
 lowOf anyLength = 0

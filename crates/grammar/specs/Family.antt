@@ -8,7 +8,8 @@
 -- listOf f xs ys == the list of the family f, of the integers xs and the floats ys
 -- Lent f xs ys <-> the list that is not of the family f is empty
 -- someOutside lo hi xs == one of the integers xs is outside the type; outsideOf f lo hi xs == the same of a list of the family f
--- RowOf f n   <-> n is the number of a row of the table that is about the bytes of a template: 2 to 10, and 16 for integers, 14 for floats
+-- ElementRowOf f n <-> n is the number of a row of the table that is about the bytes of an element template: 2 to 10, and 16 for integers, 14 for floats
+-- RowOf f n   <-> the same of a whole template: also 20, for its sheet
 -- Assumes nothing: these are definitions.
 use mathlib.Core.Path.{_≡_}
 use mathlib.Core.Bool.{Bool, true, false, _||_}
@@ -77,6 +78,9 @@ abbrev pub outsideOf : (f : Family) → ℤ → ℤ → List (ElementOf f) → B
 outsideOf Family.Integers lo hi xs = someOutside lo hi xs
 outsideOf Family.Floats lo hi xs = false
 
+abbrev pub ElementRowOf : Family → ℕ → Type 0
+ElementRowOf Family.Integers n = ((2 ≤ n) × (n ≤ 10)) ⊎ (n ≡ 16)
+ElementRowOf Family.Floats n = ((2 ≤ n) × (n ≤ 10)) ⊎ (n ≡ 14)
+
 abbrev pub RowOf : Family → ℕ → Type 0
-RowOf Family.Integers n = ((2 ≤ n) × (n ≤ 10)) ⊎ (n ≡ 16)
-RowOf Family.Floats n = ((2 ≤ n) × (n ≤ 10)) ⊎ (n ≡ 14)
+RowOf f n = ElementRowOf f n ⊎ (n ≡ 20)

@@ -12,10 +12,13 @@
 -- permutationHere m s == the permutation at the front of s, with m members before it
 -- item m s        == the item of a record of at the front of s, with m members before it
 -- contents kind n s == what follows the header of a body of this kind with n items
--- clashes a kind n == row 9: superset with length min below n, or subset with length max above n
+-- clashes v a kind n == row 9: superset with length min below n, or, under sheet 2, subset with length max above n
 -- bodyHere h s    == the body at the front of s, after the heads h
+-- sheetOf v       == the sheet whose number is v, 1 or 2
+-- sheetHere h s   == the heads h with the sheet at the front of s, or h where none stands there
 -- lengthHere h s  == the heads h with the length attribute at the front of s, or h where none stands there
 -- typeHere f h s  == the heads h with the element type at the front of s, or h where none stands there
+-- restHere f h s  == the heads h with the length attribute and the element type at the front of s
 -- headsHere f s   == the heads at the front of s, in their order: a head that comes too late, or twice, stands where a body is due
 -- templateHere f s == the template of the family f at the front of s
 -- readTemplate f s == s as a whole template
@@ -24,15 +27,15 @@
 -- Assumes nothing: these are definitions.
 use Prim.Native.Nat.{ℕ, zero, suc, _+_}
 use mathlib.Core.List.{List, [], _∷_}
-use mathlib.Core.Bool.{Bool, true, false, _||_, _&&_, cond}
+use mathlib.Core.Bool.{Bool, true, false, not, _||_, _&&_, cond}
 use lib.ListN.{length, getD, drop}
 use lib.Dec.{ltb, eqb}
 use Rattle.grammar.specs.Element.{Elem}
 use Rattle.format.specs.declared.Family.{Family}
 use Rattle.integers.specs.Integer.{intAt}
 use Rattle.grammar.specs.Family.{LeafOf, hasTypes, leavesIn}
-use Rattle.grammar.specs.Template.{Star, noStar, star, Group, grouped, Item, one, spares, permutation, Body, recordOf, setOf, superset, subset, Length, anyLength, between, Heads, noHeads, Template, template, membersOfGroup, membersOfItem}
-use Rattle.grammar.specs.Record.{Head, fault, leafHere, group, kindOf, outside, countFault, boundsFault, typeFault, head}
+use Rattle.grammar.specs.Template.{Star, noStar, star, Group, grouped, Item, one, spares, permutation, Body, recordOf, setOf, superset, subset, Length, anyLength, between, Sheet, sheet1, sheet2, isPlain, Heads, noHeads, Template, template, membersOfGroup, membersOfItem}
+use Rattle.grammar.specs.Record.{Head, fault, leafHere, group, kindOf, outside, countFault, boundsFault, sheetFault, typeFault, head}
 use Rattle.grammar.specs.Read.{Read, refuse, got, orRefuse, refuseOr, ended, limited, mapRead, andThen}
 use Rattle.grammar.specs.Reading.{uncounted, outermost}
 
@@ -55,9 +58,10 @@ starHere seen s =
 abbrev pub fewest : ℕ → ℕ
 fewest kind = cond (ltb kind 0x12) 0 1
 
-unfoldable pub clashes : Length → ℕ → ℕ → Bool
-clashes anyLength kind n = false
-clashes (between min max) kind n = (eqb kind 0x12 && ltb min n) || (eqb kind 0x13 && ltb n max)
+-- "Under sheet 1 .. rule 9 isn't applied to subset"
+unfoldable pub clashes : Sheet → Length → ℕ → ℕ → Bool
+clashes v anyLength kind n = false
+clashes v (between min max) kind n = (eqb kind 0x12 && ltb min n) || (eqb kind 0x13 && (not (isPlain v) && ltb n max))
 
 module _ {L : Type 0} where
   -- "a 33rd member": at its first record, after that record's own faults and before anything inside it
@@ -124,24 +128,37 @@ module _ {L : Type 0} (leafHead : List ℕ → Head L) where
       orRefuse (eqb (length s) 0) 3
       (orRefuse (outside 0x10 0x13 (kindOf s)) 4
       (refuseOr (countFault (fewest (kindOf s)) 32 s)
-      (orRefuse (clashes (h .length) (kindOf s) (getD s 1 0)) 9
+      (orRefuse (clashes (h .sheet) (h .length) (kindOf s) (getD s 1 0)) 9
       (mapRead (template h) (contents (kindOf s) (getD s 1 0) (drop 2 s))))))
+
+abbrev pub sheetOf : ℕ → Sheet
+sheetOf v = cond (eqb v 1) sheet1 sheet2
+
+-- "Kind 32, body 1, value 1 or 2, may stand first of all; without it sheet 2 holds"
+unfoldable pub sheetHere : Heads → List ℕ → Read Heads
+sheetHere h s =
+    cond (eqb (kindOf s) 0x32)
+    (refuseOr (sheetFault s) (got (record { sheet = sheetOf (getD s 1 0); length = h .length; lower = h .lower; upper = h .upper }) (drop 2 s)))
+    (got h s)
 
 unfoldable pub lengthHere : Heads → List ℕ → Read Heads
 lengthHere h s =
     cond (eqb (kindOf s) 0x30)
-    (refuseOr (boundsFault s) (got (record { length = between (getD s 1 0) (getD s 2 0); lower = h .lower; upper = h .upper }) (drop 3 s)))
+    (refuseOr (boundsFault s) (got (record { sheet = h .sheet; length = between (getD s 1 0) (getD s 2 0); lower = h .lower; upper = h .upper }) (drop 3 s)))
     (got h s)
 
 -- "lower and upper bound of the element type, after a 30 if there is one; without it, all 32-bit integers"
 unfoldable pub typeHere : Family → Heads → List ℕ → Read Heads
 typeHere f h s =
     cond (hasTypes f && eqb (kindOf s) 0x31)
-    (refuseOr (typeFault s) (got (record { length = h .length; lower = intAt s 1; upper = intAt s 5 }) (drop 9 s)))
+    (refuseOr (typeFault s) (got (record { sheet = h .sheet; length = h .length; lower = intAt s 1; upper = intAt s 5 }) (drop 9 s)))
     (got h s)
 
+unfoldable pub restHere : Family → Heads → List ℕ → Read Heads
+restHere f h s = andThen (lengthHere h s) (typeHere f)
+
 unfoldable pub headsHere : Family → List ℕ → Read Heads
-headsHere f s = andThen (lengthHere noHeads s) (typeHere f)
+headsHere f s = andThen (sheetHere noHeads s) (restHere f)
 
 unfoldable pub templateHere : (f : Family) → List ℕ → Read (Template (LeafOf f))
 templateHere f s = andThen (headsHere f s) (λ h. bodyHere (leavesIn f (h .lower) (h .upper)) h)

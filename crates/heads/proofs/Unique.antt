@@ -11,9 +11,9 @@ use denote.Triple.Clauses.{AtExit}
 use Rattle.facts.proofs.Slices.{same-place}
 use Rattle.format.specs.declared.Family.{Family}
 use Rattle.grammar.specs.Read.{Read}
-use Rattle.grammar.specs.Template.{Heads as HeadsRead}
+use Rattle.grammar.specs.Template.{isPlain, Heads as HeadsRead}
 use Rattle.sorts.specs.Sorts.{wordOf}
-use Rattle.heads.specs.Fronts.{lengthOf, Bounds, refusedHeads, HeadsAt, headsFault, headsRead}
+use Rattle.heads.specs.Fronts.{sheetFor, lengthOf, Bounds, refusedHeads, HeadsAt, headsFault, headsRead}
 use Rattle.heads.specs.declared.Heads.{Heads}
 use Rattle.heads.proofs.heads_of.Reads as heads-of
 use Rattle.heads.proofs.heads_of.Kinds as heads-of-kinds
@@ -24,12 +24,19 @@ use Rattle.heads.proofs.body_fault.Kinds as body-fault-kinds
 pub record SameHeads (h h′ : Heads) : Type 0 where
   pub code : h .code ≡ h′ .code
   pub next : h .next ≡ h′ .next
+  pub plain : h .plain ≡ h′ .plain
   pub given : h .given ≡ h′ .given
   pub min : h .min ≡ h′ .min
   pub max : h .max ≡ h′ .max
   pub sort : h .sort .word ≡ h′ .sort .word
 
--- one length attribute is said in one way
+-- one sheet is said in one way, and so is one length attribute
+one-sheet : (p q : Bool) → sheetFor p ≡ sheetFor q → p ≡ q
+one-sheet true true e = refl
+one-sheet true false e = ap isPlain e
+one-sheet false true e = ap isPlain e
+one-sheet false false e = refl
+
 one-length : (g g′ : Bool) (m x m′ x′ : ℕ) → lengthOf g m x ≡ lengthOf g′ m′ x′ → Bounds g m x → Bounds g′ m′ x′ → (g ≡ g′) × (m ≡ m′) × (x ≡ x′)
 one-length true true m x m′ x′ e b b′ = (refl, cc, cc)
 one-length true false m x m′ x′ e b b′ = let z : _≡_ {A = ℕ} 0 1 = cc in absurd (omega arith)
@@ -40,6 +47,7 @@ same-fields : (h h′ : Heads) → h ≡ h′ → SameHeads h h′
 same-fields h h′ e = record {
   code = ap (λ (x : Heads). x .code) e;
   next = ap (λ (x : Heads). x .next) e;
+  plain = ap (λ (x : Heads). x .plain) e;
   given = ap (λ (x : Heads). x .given) e;
   min = ap (λ (x : Heads). x .min) e;
   max = ap (λ (x : Heads). x .max) e;
@@ -57,6 +65,7 @@ heads-same fam t o h h′ (headsRead a q z i s) (headsRead a′ q′ z′ i′ s
     record {
       code = z ∙ sym z′;
       next = same-place t (h .next) (h′ .next) i i′ d;
+      plain = one-sheet (h .plain) (h′ .plain) (sym (s .sheet) ∙ ap (λ (x : HeadsRead). x .sheet) c ∙ s′ .sheet);
       given = l .0;
       min = l .1;
       max = l .2;

@@ -4,22 +4,27 @@ ghost use Prim.Native.Nat.{_≤_, _<_};
 ghost use lib.ListN.{length, drop};
 ghost use Rattle.format.specs.declared.Family.{Family};
 ghost use Rattle.grammar.specs.Family.{hasTypes};
-ghost use Rattle.grammar.specs.Record.{kindOf, typeFault};
+ghost use Rattle.grammar.specs.Record.{kindOf, sheetFault, typeFault};
 ghost use Rattle.grammar.specs.Template.{Heads as HeadsRead, noHeads};
-ghost use Rattle.grammar.specs.Whole.{fewest, clashes, lengthHere, typeHere, headsHere};
-ghost use Rattle.heads.specs.Fronts.{lengthOf, refusedHeads, Said, NoHeads, HeadsAt, ownFault};
+ghost use Rattle.grammar.specs.Whole.{fewest, clashes, sheetHere, lengthHere, typeHere, restHere, headsHere};
+ghost use Rattle.heads.specs.Fronts.{sheetFor, lengthOf, refusedHeads, Said, NoHeads, HeadsAt, Begun, ownFault};
 use elements::count_fault;
 use format::BAD_BOUNDS;
 use format::BAD_KIND;
+use format::BAD_SHEET;
 use format::BOUNDS_SIZE;
 use format::DONE;
 use format::Family;
 use format::INFINITY;
 use format::ITEMS_MOST;
+use format::LAST_SHEET;
 use format::LENGTH;
 use format::LENGTH_CLASH;
 use format::MISSING;
+use format::PLAIN_SHEET;
 use format::RECORD_OF;
+use format::SHEET;
+use format::SHEET_SIZE;
 use format::SUBSET;
 use format::SUPERSET;
 use format::TYPE;
@@ -31,10 +36,12 @@ use sorts::Sort;
 use sorts::typed;
 use sorts::untyped;
 
-// The heads of a template: their fault, or 0; the place after them; the length attribute, where one is given; the sort of the leaves.
+// The heads of a template: their fault, or 0; the place after them; whether sheet 1 reads a subset plainly; the length attribute, where one is given; the sort
+// of the leaves.
 pub struct Heads {
     pub code: u8,
     pub next: usize,
+    pub plain: bool,
     pub given: bool,
     pub min: u8,
     pub max: u8,
@@ -72,6 +79,7 @@ fn no_heads(family: Family) -> Heads
     Heads {
         code: DONE,
         next: 0,
+        plain: false,
         given: false,
         min: 0,
         max: INFINITY,
@@ -86,6 +94,7 @@ fn refused_heads(code: u8) -> Heads
     Heads {
         code,
         next: 0,
+        plain: false,
         given: false,
         min: 0,
         max: 0,
@@ -93,24 +102,63 @@ fn refused_heads(code: u8) -> Heads
     }
 }
 
-// The length attribute at the front of t, where there is one.
-fn length_head(t: &[u8], family: Family) -> Heads
-    ensures { λ r. ⌜ HeadsAt family (now (t .entry)) (lengthHere noHeads (now (t .entry))) r ⌝ }
+// The fault of the record at the front of t, whose body is the number of a sheet.
+fn sheet_fault(t: &[u8]) -> u8
+    ensures { λ r. ⌜ r ≡ sheetFault (now (t .entry)) ⌝ }
 {
-    if kind_at(t, 0) != LENGTH {
+    if t.len() < SHEET_SIZE {
+        return MISSING;
+    }
+    if (t[1] < PLAIN_SHEET) | (LAST_SHEET < t[1]) {
+        return BAD_SHEET;
+    }
+    DONE
+}
+
+// The sheet at the front of t, where there is one.
+fn sheet_head(t: &[u8], family: Family) -> Heads
+    ensures { λ r. ⌜ HeadsAt family (now (t .entry)) (sheetHere noHeads (now (t .entry))) r ⌝ }
+{
+    if kind_at(t, 0) != SHEET {
         return no_heads(family);
     }
-    let code = bounds_fault(t, 0);
+    let code = sheet_fault(t);
     if code != DONE {
         return refused_heads(code);
     }
     Heads {
         code: DONE,
-        next: BOUNDS_SIZE,
-        given: true,
-        min: t[1],
-        max: t[2],
+        next: SHEET_SIZE,
+        plain: t[1] == PLAIN_SHEET,
+        given: false,
+        min: 0,
+        max: INFINITY,
         sort: untyped(family),
+    }
+}
+
+// The heads h, with the length attribute where one stands after them.
+fn length_head(t: &[u8], h: Heads) -> Heads
+    requires { ⌜ Begun (now t) h ⌝ }
+    ensures { λ r. ⌜ ((f : Family) (a : HeadsRead) → Said f a h → HeadsAt f (now (t .entry)) (lengthHere a (drop (h .next) (now (t .entry)))) r) ⌝ }
+{
+    let at = h.next;
+    if kind_at(t, at) != LENGTH {
+        return h;
+    }
+    let code = bounds_fault(t, at);
+    if code != DONE {
+        return refused_heads(code);
+    }
+    let sort = h.sort;
+    Heads {
+        code: DONE,
+        next: at + BOUNDS_SIZE,
+        plain: h.plain,
+        given: true,
+        min: t[at + 1],
+        max: t[at + 2],
+        sort,
     }
 }
 
@@ -128,6 +176,7 @@ fn type_head(t: &[u8], h: Heads) -> Heads
     Heads {
         code: DONE,
         next: at + TYPE_SIZE,
+        plain: h.plain,
         given: h.given,
         min: h.min,
         max: h.max,
@@ -135,22 +184,34 @@ fn type_head(t: &[u8], h: Heads) -> Heads
     }
 }
 
+// The heads h, with the length attribute and the type that stand after them.
+fn rest_heads(t: &[u8], family: Family, h: Heads) -> Heads
+    requires { ⌜ Begun (now t) h ⌝ }
+    ensures { λ r. ⌜ ((a : HeadsRead) → Said family a h → HeadsAt family (now (t .entry)) (restHere family a (drop (h .next) (now (t .entry)))) r) ⌝ }
+{
+    let g = length_head(t, h);
+    if g.code != DONE {
+        return g;
+    }
+    if kind_at(t, g.next) != TYPE {
+        return g;
+    }
+    if has_types(family) {
+        return type_head(t, g);
+    }
+    g
+}
+
 // The heads of a template that begins with one.
 fn some_heads(t: &[u8], family: Family) -> Heads
     requires { ⌜ length (now t) < 65536 ⌝ }
     ensures { λ r. ⌜ HeadsAt family (now (t .entry)) (headsHere family (now (t .entry))) r ⌝ }
 {
-    let h = length_head(t, family);
+    let h = sheet_head(t, family);
     if h.code != DONE {
         return h;
     }
-    if kind_at(t, h.next) != TYPE {
-        return h;
-    }
-    if has_types(family) {
-        return type_head(t, h);
-    }
-    h
+    rest_heads(t, family, h)
 }
 
 // The heads of the template at the front of t. Most templates have none.
@@ -166,11 +227,14 @@ pub fn heads_of(t: &[u8], family: Family) -> Heads
 
 // Row 9, for a body of this kind with n members.
 fn length_clashes(heads: Heads, kind: u8, n: u8) -> bool
-    ensures { λ r. ⌜ r ≡ clashes (lengthOf (heads .given) (heads .min) (heads .max)) kind n ⌝ }
+    ensures { λ r. ⌜ r ≡ clashes (sheetFor (heads .plain)) (lengthOf (heads .given) (heads .min) (heads .max)) kind n ⌝ }
 {
+    if !heads.given {
+        return false;
+    }
     let min = heads.min;
     let max = heads.max;
-    heads.given & (((kind == SUPERSET) & (min < n)) | ((kind == SUBSET) & (n < max)))
+    ((kind == SUPERSET) & (min < n)) | ((kind == SUBSET) & (!heads.plain & (n < max)))
 }
 
 fn fewest_items(kind: u8) -> u8
@@ -182,7 +246,7 @@ fn fewest_items(kind: u8) -> u8
 // The fault of the body's record after these heads, or 0.
 pub fn body_fault(t: &[u8], heads: Heads) -> u8
     requires { ⌜ heads .next ≤ length (now t) ⌝ }
-    ensures { λ r. ⌜ r ≡ ownFault (lengthOf (heads .given) (heads .min) (heads .max)) (drop (heads .next) (now (t .entry))) ⌝ }
+    ensures { λ r. ⌜ r ≡ ownFault (sheetFor (heads .plain)) (lengthOf (heads .given) (heads .min) (heads .max)) (drop (heads .next) (now (t .entry))) ⌝ }
 {
     let at = heads.next;
     if at == t.len() {

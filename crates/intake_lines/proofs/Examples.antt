@@ -7,13 +7,13 @@ use lib.Dec.{eqb}
 use Rattle.integers.specs.Integer.{signed, intAt}
 use Rattle.facts.specs.Counting.{between, cnt}
 use Rattle.blocks.specs.Assignment.{allOnce}
-use Rattle.grammar.specs.Template.{membersOfGroup, membersOfItem, membersOfItems, membersOf}
+use Rattle.grammar.specs.Template.{plainly, membersOfGroup, membersOfItem, membersOfItems, membersOf}
 use Rattle.grammar.specs.Record.{countFault, boundsFault, typeFault, groupHead, head}
 use Rattle.grammar.specs.Family.{someOutside}
 use Rattle.grammar.specs.Leaf.{singleHead, rangeHead, leafHead, reaches, ofType}
 use Rattle.grammar.specs.Read.{verdict, ended, mapRead, andThen}
 use Rattle.grammar.specs.Reading.{uncounted, putFirst, thenMore, many, closed, tooDeep, opened, elem}
-use Rattle.grammar.specs.Whole.{starHere, numbered, putMember, thenMembers, thenStar, putItem, thenItems, clashes, member, members, permutationHere, item, items, contents, bodyHere, lengthHere, typeHere, headsHere, templateHere, readTemplate}
+use Rattle.grammar.specs.Whole.{starHere, numbered, putMember, thenMembers, thenStar, putItem, thenItems, clashes, member, members, permutationHere, item, items, contents, bodyHere, sheetHere, lengthHere, typeHere, restHere, headsHere, templateHere, readTemplate}
 use Rattle.grammar.specs.Matches.{matchesBy, leafMatches}
 use Rattle.grammar.specs.Members.{memberHits}
 use Rattle.matching.specs.Obeys.{rightBytes, noneTwice, allSpare, withinBlock, starMet, groupTakes, itemTakes, someCut, cuts, bodyMet, lengthMet, obeysBy}
@@ -55,5 +55,5 @@ examples =
     []
 
 examples-right : right examples ≡ true
-unfolding right sameBytes examples signed intAt between cnt allOnce membersOfGroup membersOfItem membersOfItems membersOf countFault boundsFault typeFault groupHead head singleHead rangeHead leafHead reaches ofType verdict ended uncounted putFirst thenMore many closed tooDeep opened elem mapRead starHere numbered putMember thenMembers thenStar putItem thenItems clashes member members permutationHere item items contents bodyHere lengthHere typeHere headsHere andThen templateHere readTemplate matchesBy leafMatches memberHits rightBytes noneTwice allSpare withinBlock starMet groupTakes itemTakes someCut cuts bodyMet lengthMet obeysBy put orElse tryEach firstOf from membersCount firstWitness written someOutside elementOutside matchRead matchAnswer digitsBy decimal spaceThen spaced line recordFault putInteger integers listFault listHere reached answered listLine turned turn follow linesBy linesFrom started output
+unfolding right sameBytes examples signed intAt between cnt allOnce membersOfGroup membersOfItem membersOfItems membersOf countFault boundsFault typeFault groupHead head singleHead rangeHead leafHead reaches ofType verdict ended uncounted putFirst thenMore many closed tooDeep opened elem mapRead starHere numbered putMember thenMembers thenStar putItem thenItems clashes member members permutationHere item items contents bodyHere sheetHere lengthHere typeHere restHere headsHere andThen templateHere readTemplate matchesBy leafMatches memberHits rightBytes noneTwice allSpare withinBlock starMet groupTakes itemTakes someCut cuts bodyMet lengthMet plainly obeysBy put orElse tryEach firstOf from membersCount firstWitness written someOutside elementOutside matchRead matchAnswer digitsBy decimal spaceThen spaced line recordFault putInteger integers listFault listHere reached answered listLine turned turn follow linesBy linesFrom started output
 examples-right = refl

@@ -15,9 +15,9 @@ use Rattle.format.specs.declared.Family.{Family}
 use Rattle.grammar.specs.Family.{RowOf}
 use Rattle.grammar.specs.Leaf.{Leaf}
 use Rattle.grammar.specs.Read.{Read, refuse, got, orRefuse, refuseOr, verdict, ended, andThen}
-use Rattle.grammar.specs.Record.{Head, kindOf, countFault, boundsFault, typeFault, outside}
+use Rattle.grammar.specs.Record.{Head, kindOf, countFault, boundsFault, sheetFault, typeFault, outside}
 use Rattle.grammar.specs.Template.{Heads, Template}
-use Rattle.grammar.specs.Whole.{bodyHere, lengthHere, typeHere, headsHere, templateHere, readTemplate}
+use Rattle.grammar.specs.Whole.{bodyHere, sheetHere, lengthHere, typeHere, restHere, headsHere, templateHere, readTemplate}
 use Rattle.grammar.proofs.ReadApart.{clash}
 use Rattle.grammar.proofs.RefusalNumbers.{Cases, isRefused, isRead, read-cases, template-row}
 use Rattle.lines.specs.Line.{decimal, spaceThen, spaced, line}
@@ -103,11 +103,12 @@ last-size t k s l e =
 
 -- ---- the line of a refused input
 
-row-small : (r : ℕ) → RowOf Family.Integers r → r ≤ 16
-row-small r (inl row) = let most = row .1 in omega arith
+row-small : (r : ℕ) → RowOf Family.Integers r → r ≤ 20
+row-small r (inl (inl row)) = let most = row .1 in omega arith
+row-small r (inl (inr e)) = omega arith
 row-small r (inr e) = omega arith
 
-verdict-small : (o : Read (Template Leaf)) → ((r : ℕ) → o ≡ refuse r → RowOf Family.Integers r) → verdict o ≤ 16
+verdict-small : (o : Read (Template Leaf)) → ((r : ℕ) → o ≡ refuse r → RowOf Family.Integers r) → verdict o ≤ 20
 unfolding verdict
 verdict-small (refuse r) h = row-small r (h r refl)
 verdict-small (got p s) h = omega arith
@@ -157,14 +158,17 @@ short-body leaves h s short =
     (λ (b : outside 0x10 0x13 (kindOf s) ≡ false). refuses 3 (rw (a, b, lt-ltb (length s) 2 short))))
 
 short-template : (s : List ℕ) → length s < 2 → Refuses (templateHere Family.Integers s)
-unfolding templateHere headsHere lengthHere typeHere andThen boundsFault typeFault
+unfolding templateHere headsHere sheetHere lengthHere typeHere restHere andThen boundsFault sheetFault typeFault
 short-template s short =
+    by-test (eqb (kindOf s) 0x32)
+    (λ (c : eqb (kindOf s) 0x32 ≡ true). refuses 3 (rw (c, lt-ltb (length s) 2 short)))
+    (λ (c : eqb (kindOf s) 0x32 ≡ false).
     by-test (eqb (kindOf s) 0x30)
-    (λ (a : eqb (kindOf s) 0x30 ≡ true). refuses 3 (rw (a, lt-ltb (length s) 3 (omega arith))))
+    (λ (a : eqb (kindOf s) 0x30 ≡ true). refuses 3 (rw (c, a, lt-ltb (length s) 3 (omega arith))))
     (λ (a : eqb (kindOf s) 0x30 ≡ false).
     by-test (eqb (kindOf s) 0x31)
-    (λ (b : eqb (kindOf s) 0x31 ≡ true). refuses 3 (rw (a, b, lt-ltb (length s) 9 (omega arith))))
-    (λ (b : eqb (kindOf s) 0x31 ≡ false). rw (a, b) (short-body _ _ s short)))
+    (λ (b : eqb (kindOf s) 0x31 ≡ true). refuses 3 (rw (c, a, b, lt-ltb (length s) 9 (omega arith))))
+    (λ (b : eqb (kindOf s) 0x31 ≡ false). rw (c, a, b) (short-body _ _ s short))))
 
 short-unread : (t : List ℕ) (p : Template Leaf) → Refuses (templateHere Family.Integers t) → readTemplate Family.Integers t ≡ got p [] → ⊥
 unfolding readTemplate ended

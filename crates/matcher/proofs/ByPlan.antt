@@ -1,12 +1,12 @@
 -- From the plan, the rows and the blocks to the rules. Assumes nothing.
 -- Ready fam t p n <-> p is the plan of the accepted bytes t, and a list of n elements is short enough. planned-ready: so it is where the plan's number is 0.
--- ready-inside, ready-members: what the search and the rows ask of a plan. rows-agree, agree-from: the rows say of each pair whether it matches.
+-- ready-inside, ready-members: what the search and the rows ask of a plan.
 -- length-by: the plan's bounds are the length attribute. best-by, pass-by: what the plan's kind, blocks and members allow by the rows is what obeys.
 -- unmet-none: a length that is not met leaves no assignment.
 use mathlib.Core.Path.{_≡_, refl, sym, ap, _∙_}
-use mathlib.Core.Bool.{Bool, true, false, _&&_}
+use mathlib.Core.Bool.{Bool, true, false, _&&_, _||_, cond}
 use mathlib.Core.List.{List, [], _∷_}
-use Prim.Native.Nat.{ℕ, suc, _+_, _≤_, _<_}
+use Prim.Native.Nat.{ℕ, _+_, _≤_}
 use native.Mathlib.Omega.{arith}
 use native.Mathlib.Nat.{zero-add}
 use borrow.Author.Tests.{le-leb}
@@ -21,17 +21,16 @@ use Rattle.blocks.proofs.FirstLists.{best-same}
 use Rattle.grammar.specs.Element.{Elem}
 use Rattle.format.specs.declared.Family.{Family}
 use Rattle.grammar.specs.Family.{LeafOf, ElementOf, noElement, matchesOf}
-use Rattle.grammar.specs.Template.{Item, grouped, one, spares, permutation, Body, recordOf, setOf, superset, subset, Length, anyLength, between, Heads, template, membersOfGroup, membersOfItem, membersOfItems, membersOf}
+use Rattle.grammar.specs.Template.{Item, grouped, one, spares, permutation, Body, recordOf, setOf, superset, subset, Length, anyLength, between, Sheet, sheet1, sheet2, isPlain, Heads, plainly, template, membersOfGroup, membersOfItem, membersOfItems, membersOf}
 use Rattle.grammar.specs.Read.{got}
 use Rattle.grammar.specs.Whole.{readTemplate}
-use Rattle.grammar.specs.Members.{memberHits}
-use Rattle.grammar.specs.Blocks.{blockOfGroup, blockOfItem, blocksOfItems, blocksOf, bodyKind, lowOf, highOf, Standing}
+use Rattle.grammar.specs.Blocks.{blockOfGroup, blockOfItem, blocksOfItems, blocksOf, bodyKind, kindRead, lowOf, highOf, Standing}
 use Rattle.grammar.proofs.MemberLimit.{accepted-short}
 use Rattle.plans.specs.declared.Plan.{Plan}
 use Rattle.plans.specs.Plans.{Planned, PlanOf, refusedPlan, aPlan}
 use Rattle.member_rows.specs.Places.{MembersAt}
 use Rattle.matching.specs.Obeys.{rightBytes, noneTwice, bodyMet, lengthMet, obeysBy, Obeys}
-use Rattle.matching.proofs.RulesByBlocks.{Agree, ByBlocks, obeys-says, obeys-test}
+use Rattle.matching.proofs.RulesByBlocks.{Agree, agree-from, Under, ByBlocks, obeys-says, obeys-test}
 use Rattle.member_rows.specs.Contract.{pairOf}
 use Rattle.records.specs.Records.{Below}
 use Rattle.witnesses.specs.ByKind.{Allows, OneBlock}
@@ -81,16 +80,6 @@ blocks-inside (subset es) l = (omega arith, tt)
 pub ready-inside : {fam : Family} {t : List ℕ} {p : Plan} {n : ℕ} → Ready fam t p n → Inside (blocksIn (take (p .count) (p .blocks)))
 ready-inside r = rw (r .planned .cut) (blocks-inside (r .body) (few r))
 
--- ---- the rows say of each pair whether it matches
-
-pub agree-from : (fam : Family) (es : List (Elem (LeafOf fam))) (related : ℕ → ℕ → Bool) (e : ℕ) (xs : List (ElementOf fam)) → ((m i : ℕ) → i < length xs → related m (e + i) ≡ memberHits (matchesOf fam) es m (getD xs i (noElement fam)))
-    → Agree (matchesOf fam) es e xs related
-unfolding Agree
-agree-from fam es related e [] h = tt
-agree-from fam es related e (x ∷ xs) h =
-    let z : e + 0 ≡ e = omega arith in
-    (λ m. rw z at (h m 0 (omega arith)), agree-from fam es related (suc e) xs (λ m i l. let y : suc e + i ≡ e + suc i = omega arith in rw y (h m (suc i) (omega arith))))
-
 -- ---- the length attribute
 
 length-is : (a : Length) (n : ℕ) → n ≤ 32 → (leb (lowOf a) n && leb n (highOf a)) ≡ lengthMet a n
@@ -105,18 +94,23 @@ pub unmet-none : (fam : Family) (h : Heads) (b : Body (LeafOf fam)) (xs : List (
 unfolding obeysBy
 unmet-none fam h b xs m v o =
     let r = rightBytes (matchesOf fam) (membersOf b) xs v in
-    let n = noneTwice (length (membersOf b)) v in
+    let n = plainly h b || noneTwice (length (membersOf b)) v in
     let l = lengthMet (h .length) (length xs) in
     clash (and-right (bodyMet b v) l (and-right n (bodyMet b v && l) (and-right r (n && (bodyMet b v && l)) o))) m
 
 -- ---- from the kind, the blocks and the members to the rules
 
-body-allows : {L : Type 0} (b : Body L) (related : ℕ → ℕ → Bool) (n : ℕ) (P : (List ℕ → Type 0) → Type 0) → P (Allows (bodyKind b) (blocksOf b) (length (membersOf b)) related n) → P (ByBlocks b related n)
-unfolding Allows bodyKind ByBlocks membersOf
-body-allows (recordOf is) related n P h = h
-body-allows (setOf g) related n P h = h
-body-allows (superset es) related n P h = h
-body-allows (subset es) related n P h = h
+subset-allows : (v : Sheet) (bs : List Block) (k : ℕ) (related : ℕ → ℕ → Bool) (n : ℕ) (P : (List ℕ → Type 0) → Type 0) → P (Allows (cond (isPlain v) 0x14 0x13) bs k related n) → P (Under v related k n)
+unfolding Allows
+subset-allows sheet1 bs k related n P p = p
+subset-allows sheet2 bs k related n P p = p
+
+body-allows : {L : Type 0} (h : Heads) (b : Body L) (related : ℕ → ℕ → Bool) (n : ℕ) (P : (List ℕ → Type 0) → Type 0) → P (Allows (kindRead h b) (blocksOf b) (length (membersOf b)) related n) → P (ByBlocks h b related n)
+unfolding Allows kindRead plainly bodyKind ByBlocks membersOf
+body-allows h (recordOf is) related n P p = p
+body-allows h (setOf g) related n P p = p
+body-allows h (superset es) related n P p = p
+body-allows h (subset es) related n P p = subset-allows (h .sheet) (blocksOf (subset es)) (length es) related n P p
 
 -- ---- what the first witness asks of the blocks
 
@@ -138,15 +132,15 @@ blocks-below (subset es) = (omega arith, tt)
 pub ready-below : {fam : Family} {t : List ℕ} {p : Plan} {n : ℕ} (r : Ready fam t p n) → Below (p .members) (blocksIn (take (p .count) (p .blocks)))
 ready-below r = let pl = r .planned in rw (pl .cut, pl .size) (blocks-below (r .body))
 
-one-body : {L : Type 0} (kind count : ℕ) (vs : List ℕ) (b : Body L) → kind ≡ bodyKind b → blocksIn (take count vs) ≡ blocksOf b → (kind ≡ 0x10 → ⊥) → blocksIn (take count vs) ≡ blockIn (getD vs 0 0) ∷ []
-unfolding bodyKind blocksOf
-one-body kind count vs (recordOf is) k q n = absurd (n k)
-one-body kind count vs (setOf g) k q n = q ∙ ap (λ (c : Block). c ∷ []) (sym (first-block count vs _ q))
-one-body kind count vs (superset es) k q n = q ∙ ap (λ (c : Block). c ∷ []) (sym (first-block count vs _ q))
-one-body kind count vs (subset es) k q n = q ∙ ap (λ (c : Block). c ∷ []) (sym (first-block count vs _ q))
+one-body : {L : Type 0} (kind count : ℕ) (vs : List ℕ) (h : Heads) (b : Body L) → kind ≡ kindRead h b → blocksIn (take count vs) ≡ blocksOf b → (kind ≡ 0x10 → ⊥) → blocksIn (take count vs) ≡ blockIn (getD vs 0 0) ∷ []
+unfolding kindRead plainly bodyKind blocksOf
+one-body kind count vs h (recordOf is) k q n = absurd (n k)
+one-body kind count vs h (setOf g) k q n = q ∙ ap (λ (c : Block). c ∷ []) (sym (first-block count vs _ q))
+one-body kind count vs h (superset es) k q n = q ∙ ap (λ (c : Block). c ∷ []) (sym (first-block count vs _ q))
+one-body kind count vs h (subset es) k q n = q ∙ ap (λ (c : Block). c ∷ []) (sym (first-block count vs _ q))
 
 pub ready-alone : {fam : Family} {t : List ℕ} {p : Plan} {n : ℕ} (r : Ready fam t p n) → OneBlock (p .kind) (p .count) (p .blocks)
-ready-alone {fam} {t} {p} r = let pl = r .planned in record { alone = λ n10 n13. one-body (p .kind) (p .count) (p .blocks) (r .body) (pl .kind) (pl .cut) n10 }
+ready-alone {fam} {t} {p} r = let pl = r .planned in record { alone = λ n10 n13. one-body (p .kind) (p .count) (p .blocks) (r .heads) (r .body) (pl .kind) (pl .cut) n10 }
 
 -- ---- the first witness
 
@@ -154,16 +148,16 @@ module _ {fam : Family} {t : List ℕ} {p : Plan} (xs : List (ElementOf fam)) (r
   abbrev related : ℕ → ℕ → Bool
   related = pairOf fam (membersOf (r .body)) xs
 
-  allowed : (P : (List ℕ → Type 0) → Type 0) → P (Allows (p .kind) (blocksIn (take (p .count) (p .blocks))) (p .members) related (length xs)) → P (ByBlocks (r .body) related (length xs))
-  allowed P h = let pl = r .planned in body-allows (r .body) related (length xs) P (rw (pl .kind, pl .cut, pl .size) at h)
+  allowed : (P : (List ℕ → Type 0) → Type 0) → P (Allows (p .kind) (blocksIn (take (p .count) (p .blocks))) (p .members) related (length xs)) → P (ByBlocks (r .heads) (r .body) related (length xs))
+  allowed P h = let pl = r .planned in body-allows (r .heads) (r .body) related (length xs) P (rw (pl .kind, pl .cut, pl .size) at h)
 
   agrees : Agree (matchesOf fam) (membersOf (r .body)) 0 xs related
-  agrees = agree-from fam (membersOf (r .body)) related 0 xs (λ m i l. rw (zero-add i) refl)
+  agrees = agree-from (matchesOf fam) (noElement fam) (membersOf (r .body)) related 0 xs (λ m i l. rw (zero-add i) refl)
 
-  there : (v : List ℕ) → ByBlocks (r .body) related (length xs) v → Obeys fam (template (r .heads) (r .body)) xs v
+  there : (v : List ℕ) → ByBlocks (r .heads) (r .body) related (length xs) v → Obeys fam (template (r .heads) (r .body)) xs v
   there v c = obeys-test (matchesOf fam) (r .heads) (r .body) related xs agrees (few r) (r .short) v c met
 
-  back : (v : List ℕ) → Obeys fam (template (r .heads) (r .body)) xs v → ByBlocks (r .body) related (length xs) v
+  back : (v : List ℕ) → Obeys fam (template (r .heads) (r .body)) xs v → ByBlocks (r .heads) (r .body) related (length xs) v
   back v o = obeys-says (matchesOf fam) (r .heads) (r .body) related xs agrees (few r) (r .short) v o .0
 
   pub best-by : {found : Bool} {w : List ℕ} → ((es : List (Elem (LeafOf fam))) → Standing fam t es (take (p .members) (p .places)) → Best (Allows (p .kind) (blocksIn (take (p .count) (p .blocks))) (p .members) (pairOf fam es xs) (length xs)) (length xs) found w)

@@ -1,5 +1,5 @@
 -- From the plan and what is found by it to the answers of the entry points: where no row of the table before the scan holds. Assumes nothing.
-use mathlib.Core.Path.{_≡_, sym, ap, _∙_}
+use mathlib.Core.Path.{_≡_, sym, ap, subst₂, _∙_}
 use mathlib.Core.Bool.{Bool, true, false, _&&_, cond}
 use mathlib.Core.List.{List, [], _++_}
 use Prim.Native.Nat.{ℕ, _≤_}
@@ -10,11 +10,11 @@ use lib.Seq.{length-take-le}
 use Rattle.facts.proofs.Cases.{not-so}
 use Rattle.byte_order.specs.ByteOrder.{First}
 use Rattle.blocks.specs.Numbers.{blocksIn}
-use Rattle.blocks.specs.Pieces.{Best}
+use Rattle.blocks.specs.Pieces.{Contains, Best, Passing}
 use Rattle.grammar.specs.Element.{Elem}
 use Rattle.format.specs.declared.Family.{Family}
 use Rattle.grammar.specs.Family.{LeafOf, ElementOf}
-use Rattle.grammar.specs.Template.{Template, template}
+use Rattle.grammar.specs.Template.{Body, Heads, Template, template, membersOf}
 use Rattle.grammar.specs.Read.{got}
 use Rattle.grammar.specs.Whole.{readTemplate}
 use Rattle.grammar.specs.Blocks.{Standing}
@@ -22,7 +22,10 @@ use Rattle.plans.specs.declared.Plan.{Plan}
 use Rattle.plans.specs.Plans.{PlanOf}
 use Rattle.member_rows.specs.Contract.{pairOf}
 use Rattle.witnesses.specs.ByKind.{Allows}
-use Rattle.matching.specs.Obeys.{lengthMet, obeys, Obeys}
+use Rattle.pairs.specs.Pairs.{Paired}
+use Rattle.obeying.specs.Spread.{Says, Spread}
+use Rattle.obeying.proofs.JudgedPairs.{judged-wrong, judged-right, read-plainly, not-plainly, plainly-judged}
+use Rattle.matching.specs.Obeys.{bodyMet, lengthMet, obeys, Obeys}
 use Rattle.matching.specs.Answer.{given, written, elementOutside, matchAnswer, judgeRead, judgeAnswer, Taken}
 use Rattle.matching.proofs.FirstWitness.{witness-first}
 use Rattle.matching.proofs.Answers.{few-members, accepted, unmatched-where, refused-where, outside-where, judges, judged, judged-outside}
@@ -69,6 +72,33 @@ module _ (fam : Family) (t : List ℕ) (xs : List (ElementOf fam)) (taken : Take
 
     -- ---- the length is met
     module _ (so : met ≡ true) where
+      module _ (w : List ℕ) (size : length w ≡ length xs) where
+        few-so : length (membersOf (ready .body)) ≤ 32
+        few-so = let s = ready .planned .size in let f = ready .planned .fewMembers in omega arith
+
+        answer : (r : Bool) → r ≡ obeys fam (template (ready .heads) (ready .body)) xs w → cond r 0 1 ≡ judgeAnswer fam t xs w
+        answer r h = ap (λ (v : Bool). cond v 0 1) h ∙ sym (judged fam t xs w (template (ready .heads) (ready .body)) taken size (ready .accepted) inside)
+
+        -- by the pairs that the witness gives
+        module _ (left : ℕ) (paired : (es : List (Elem (LeafOf fam))) → Standing fam t es (take (p .members) (p .places)) → Paired fam es xs w left) where
+          pairs : Paired fam (membersOf (ready .body)) xs w left
+          pairs = paired (membersOf (ready .body)) (ready .planned .stands)
+
+          pub judge-wrong : left ≡ 4294967296 → (p .kind ≡ 0x14 → ⊥) → 1 ≡ judgeAnswer fam t xs w
+          judge-wrong z other =
+              answer false (sym (judged-wrong fam (ready .heads) (ready .body) xs w size left (not-plainly (ready .heads) (ready .body) (λ q. other (ready .planned .kind ∙ q))) few-so z pairs))
+
+          pub judge-right : (left ≡ 4294967296 → ⊥) → (r : Bool) → ((h : Heads) (b : Body (LeafOf fam)) → Says (p .kind) (blocksIn (take (p .count) (p .blocks))) h b → Spread b w left → r ≡ bodyMet b w) → cond r 0 1 ≡ judgeAnswer fam t xs w
+          judge-right n r h =
+              answer r (judged-right fam (ready .heads) (ready .body) xs w size left r few-so (sym met-is ∙ so) n pairs (h (ready .heads) (ready .body) (record { kind-is = ready .planned .kind; cut = ready .planned .cut })))
+
+        -- a subset under sheet 1
+        pub judge-plain : p .kind ≡ 0x14 → (r : Bool) → ((es : List (Elem (LeafOf fam))) → Standing fam t es (take (p .members) (p .places)) → Passing (Contains (pairOf fam es xs) (p .members) (length w) w) r) → cond r 0 1 ≡ judgeAnswer fam t xs w
+        judge-plain k r h =
+            let b = ready .body in
+            answer r (plainly-judged fam (ready .heads) xs w (taken .1) (sym met-is ∙ so) r b (read-plainly (ready .heads) b (sym (ready .planned .kind) ∙ k)) few-so
+            (subst₂ (λ (m n : ℕ). Passing (Contains (pairOf fam (membersOf b) xs) m n w) r) (ready .planned .size) size (h (membersOf b) (ready .planned .stands))))
+
       module _ (found : Bool) (w : List ℕ)
           (best : (es : List (Elem (LeafOf fam))) → Standing fam t es (take (p .members) (p .places)) → Best (Allows (p .kind) (blocksIn (take (p .count) (p .blocks))) (p .members) (pairOf fam es xs) (length xs)) (length xs) found w)
           (room : List ℕ) (fits : length xs ≤ length room) where

@@ -1,7 +1,7 @@
 // When a list matches: the first witness in byte order, and the judge of an offered one. Both go by the plan of the template, which is made once
 // for as many lists as are asked about. A list is lent as integers and floats, of which one is empty.
 ghost use mathlib.Core.Path.{_≡_};
-ghost use mathlib.Core.Bool.{_&&_};
+ghost use mathlib.Core.Bool.{_&&_, cond};
 ghost use Prim.Native.Nat.{_≤_};
 ghost use lib.Dec.{leb};
 ghost use lib.ListN.{length};
@@ -11,6 +11,7 @@ ghost use Rattle.sorts.specs.Sorts.{lowerOf, upperOf};
 ghost use Rattle.plans.specs.Plans.{PlanOf};
 ghost use Rattle.matching.specs.Answer.{given, matchAnswer, judgeAnswer};
 ghost use Rattle.matcher.specs.Contract.{refusalBy, Copied, Planning};
+use format::CONTAINMENT;
 use format::DONE;
 use format::ELEMENT_OUTSIDE;
 use format::Family;
@@ -25,6 +26,7 @@ use obeying::body_met;
 use pairs::WRONG;
 use pairs::left_over;
 use plans::Plan;
+use sheets::containment_passes;
 use sorts::Sort;
 use sorts::WHOLE;
 use sorts::reaches;
@@ -162,6 +164,13 @@ pub fn match_floats(template: &[u8], list: &[f64], room: &mut [u8]) -> u8
     match_any(template, Family::Floats, &none[..0], list, room)
 }
 
+// The judge's number for a witness that obeys, or does not.
+fn judged(obeys: bool) -> u8
+    ensures { λ r. ⌜ r ≡ cond obeys 0 1 ⌝ }
+{
+    if obeys { DONE } else { NO_MATCH }
+}
+
 // Whether the offered witness obeys: 0 or 1, or the number of a refusal; by the plan of the template.
 pub fn judge_planned(
     template: &[u8],
@@ -202,12 +211,20 @@ pub fn judge_planned(
         witness,
     );
     if left == WRONG {
+        // Under sheet 1 a subset may give a member twice. This is asked last: it is rare, and every other witness is judged faster.
+        if plan.kind == CONTAINMENT {
+            return judged(containment_passes(
+                template,
+                &plan.places,
+                plan.members,
+                integers,
+                floats,
+                witness,
+            ));
+        }
         return NO_MATCH;
     }
-    if body_met(plan.kind, &plan.blocks, plan.count, left, witness) {
-        return DONE;
-    }
-    NO_MATCH
+    judged(body_met(plan.kind, &plan.blocks, plan.count, left, witness))
 }
 
 // The same for one list of this family, by a plan that is made for it.

@@ -12,7 +12,7 @@ use Rattle.byte_order.specs.ByteOrder.{earlier, First}
 use Rattle.facts.proofs.Cases.{and-left, and-right, one-of, same?, below}
 use Rattle.byte_order.proofs.ByteOrder.{earlier-total}
 use Rattle.grammar.specs.Element.{Elem}
-use Rattle.grammar.specs.Template.{Template, template, membersOf}
+use Rattle.grammar.specs.Template.{Template, template, plainly, membersOf}
 use Rattle.format.specs.declared.Family.{Family}
 use Rattle.grammar.specs.Family.{LeafOf, ElementOf, matchesOf}
 use Rattle.grammar.specs.Members.{memberHits}
@@ -163,7 +163,7 @@ right-in hits es (x ∷ xs) (b ∷ w) h =
 obeys-in : (fam : Family) (t : Template (LeafOf fam)) (xs : List (ElementOf fam)) (w : List ℕ) → obeys fam t xs w ≡ true → AllIn (bytesOf (membersCount t)) w × (length w ≡ length xs)
 unfolding obeysBy membersCount
 obeys-in fam (template h b) xs w o =
-    right-in (matchesOf fam) (membersOf b) xs w (and-left (rightBytes (matchesOf fam) (membersOf b) xs w) (noneTwice (length (membersOf b)) w && (bodyMet b w && lengthMet (h .length) (length xs))) o)
+    right-in (matchesOf fam) (membersOf b) xs w (and-left (rightBytes (matchesOf fam) (membersOf b) xs w) ((plainly h b || noneTwice (length (membersOf b)) w) && (bodyMet b w && lengthMet (h .length) (length xs))) o)
 
 pub obeys-size : (fam : Family) (t : Template (LeafOf fam)) (xs : List (ElementOf fam)) (w : List ℕ) → obeys fam t xs w ≡ true → length w ≡ length xs
 obeys-size fam t xs w h = obeys-in fam t xs w h .1

@@ -1,4 +1,4 @@
--- A template's rules by its blocks: an assignment obeys exactly where its blocks cut the list, or, for a subset, where its members fill it.
+-- A template's rules by its blocks: an assignment obeys exactly where its blocks cut the list, or, for a subset, where its members fill it or, under sheet 1, contain it.
 -- Assumes nothing.
 -- Agree hits es e xs may <-> may says of each member of es which of the elements xs it matches, the first of which is e
 use mathlib.Core.Path.{_≡_, refl, sym, ap, _∙_}
@@ -17,9 +17,9 @@ use Rattle.facts.proofs.Cases.{and-left, and-right, both, one-of, or-left, or-r
 use Rattle.facts.proofs.Counting.{cnt-append}
 use Rattle.facts.proofs.Slices.{nil-of-length}
 use Rattle.blocks.proofs.Assignments.{once-test, test-once}
-use Rattle.blocks.specs.Pieces.{Takes, Cuts, Fills}
+use Rattle.blocks.specs.Pieces.{Takes, Cuts, Contains, Fills}
 use Rattle.grammar.specs.Element.{Elem}
-use Rattle.grammar.specs.Template.{grouped, Item, one, spares, permutation, Body, recordOf, setOf, superset, subset, Heads, template, membersOfGroup, membersOfItem, membersOfItems, membersOf}
+use Rattle.grammar.specs.Template.{grouped, Item, one, spares, permutation, Body, recordOf, setOf, superset, subset, Sheet, sheet1, sheet2, isPlain, Heads, plainly, template, membersOfGroup, membersOfItem, membersOfItems, membersOf}
 use Rattle.grammar.specs.Members.{memberHits}
 use Rattle.grammar.specs.Blocks.{minOf, maxOf, blockOfGroup, blockOfItem, blocksOfItems, blocksOf}
 use Rattle.grammar.proofs.Members.{hits-low}
@@ -32,6 +32,14 @@ use Rattle.matching.proofs.ItemsAsBlocks.{MayByte, MayAll, may-append, 
 unfoldable pub Agree : {L X : Type 0} → (Elem L → X → Bool) → List (Elem L) → ℕ → List X → (ℕ → ℕ → Bool) → Type 0
 Agree hits es e [] may = Unit {0}
 Agree hits es e (x ∷ xs) may = ((m : ℕ) → may m e ≡ memberHits hits es m x) × Agree hits es (suc e) xs may
+
+-- what is so of each pair is what may says
+pub agree-from : {L X : Type 0} (hits : Elem L → X → Bool) (x₀ : X) (es : List (Elem L)) (may : ℕ → ℕ → Bool) (e : ℕ) (xs : List X) → ((m i : ℕ) → i < length xs → may m (e + i) ≡ memberHits hits es m (getD xs i x₀)) → Agree hits es e xs may
+unfolding Agree
+agree-from hits x₀ es may e [] h = tt
+agree-from hits x₀ es may e (x ∷ xs) h =
+    let z : e + 0 ≡ e = omega arith in
+    (λ m. rw z at (h m 0 (omega arith)), agree-from hits x₀ es may (suc e) xs (λ m i l. let y : suc e + i ≡ e + suc i = omega arith in rw y (h m (suc i) (omega arith))))
 
 module _ {L X : Type 0} (hits : Elem L → X → Bool) (es : List (Elem L)) (may : ℕ → ℕ → Bool) where
   pub right-says : (e : ℕ) (xs : List X) (w : List ℕ) → Agree hits es e xs may → rightBytes hits es xs w ≡ true → MayAll may e w × (length w ≡ length xs)
@@ -271,49 +279,77 @@ no-spare (x ∷ w) k l h =
     omega arith
 
 module _ (may : ℕ → ℕ → Bool) (k n : ℕ) (w : List ℕ) where
-  pub subset-says : MayAll may 0 w → Within 0 k w → length w ≡ n → ((v : ℕ) → v < k → cnt v w ≤ 1) → cnt spare w ≡ 0 → k ≤ 255 → Fills may k n w
-  subset-says r b l o c low = record {
+  contains-says : MayAll may 0 w → Within 0 k w → length w ≡ n → cnt spare w ≡ 0 → k ≤ 255 → Contains may k n w
+  contains-says r b l c low = record {
     size = l;
     member = all-given w n k b c l;
     right = λ e h. ⊎-elim (λ (s : getD w e 0 ≡ 255). let z = all-given w n k b c l e h in absurd (omega arith)) (λ (s : may (getD w e 0) (0 + e) ≡ true). rw (zero-add e) at s) (may-at may 0 w r e (omega arith));
-    once = o;
   }
 
-  pub subset-test : Fills may k n w → k ≤ 255 → MayAll may 0 w × (cnt spare w ≡ 0)
-  subset-test f low =
+  contains-test : Contains may k n w → k ≤ 255 → MayAll may 0 w × (cnt spare w ≡ 0)
+  contains-test f low =
       let l = f .size in
       (may-from may 0 w (λ i h. rw (zero-add i) (f .right i (omega arith))), no-spare w k low (λ e h. f .member e (omega arith)))
 
+  pub fills-contains : Fills may k n w → Contains may k n w
+  fills-contains f = record { size = f .size; member = f .member; right = f .right }
+
+  pub subset-says : MayAll may 0 w → Within 0 k w → length w ≡ n → ((v : ℕ) → v < k → cnt v w ≤ 1) → cnt spare w ≡ 0 → k ≤ 255 → Fills may k n w
+  subset-says r b l o c low = let g = contains-says r b l c low in record { size = g .size; member = g .member; right = g .right; once = o }
+
+  pub subset-test : Fills may k n w → k ≤ 255 → MayAll may 0 w × (cnt spare w ≡ 0)
+  subset-test f low = contains-test (fills-contains f) low
+
+-- a subset under the sheet v
+abbrev pub Under : Sheet → (ℕ → ℕ → Bool) → ℕ → ℕ → List ℕ → Type 0
+Under sheet1 may k n w = Contains may k n w
+Under sheet2 may k n w = Fills may k n w
+
+module _ (may : ℕ → ℕ → Bool) (k n : ℕ) (w : List ℕ) (low : k ≤ 255) where
+  under-says : (v : Sheet) → MayAll may 0 w → Within 0 k w → length w ≡ n → (isPlain v || noneTwice k w) ≡ true → cnt spare w ≡ 0 → Under v may k n w
+  under-says sheet1 r b l t c = contains-says may k n w r b l c low
+  under-says sheet2 r b l t c = subset-says may k n w r b l (twice-says k w t) c low
+
+  record UnderTest (v : Sheet) : Type 0 where
+    rights : MayAll may 0 w
+    size : length w ≡ n
+    none : (isPlain v || noneTwice k w) ≡ true
+    given : cnt spare w ≡ 0
+
+  under-test : (v : Sheet) → Under v may k n w → UnderTest v
+  under-test sheet1 g = let u = contains-test may k n w g low in record { rights = u .0; size = g .size; none = refl; given = u .1 }
+  under-test sheet2 f = let u = subset-test may k n w f low in record { rights = u .0; size = f .size; none = twice-test k w (f .once); given = u .1 }
+
 -- ---- any body
 
-unfoldable pub ByBlocks : {L : Type 0} → Body L → (ℕ → ℕ → Bool) → ℕ → List ℕ → Type 0
-ByBlocks (recordOf is) may n w = Cuts may (blocksOf (recordOf is)) 0 n w
-ByBlocks (setOf g) may n w = Cuts may (blocksOf (setOf g)) 0 n w
-ByBlocks (superset es) may n w = Cuts may (blocksOf (superset es)) 0 n w
-ByBlocks (subset es) may n w = Fills may (length es) n w
+unfoldable pub ByBlocks : {L : Type 0} → Heads → Body L → (ℕ → ℕ → Bool) → ℕ → List ℕ → Type 0
+ByBlocks h (recordOf is) may n w = Cuts may (blocksOf (recordOf is)) 0 n w
+ByBlocks h (setOf g) may n w = Cuts may (blocksOf (setOf g)) 0 n w
+ByBlocks h (superset es) may n w = Cuts may (blocksOf (superset es)) 0 n w
+ByBlocks h (subset es) may n w = Under (h .sheet) may (length es) n w
 
 -- what is left of the rules once the bytes are right: none twice, and what the kind asks
-module _ {L : Type 0} (may : ℕ → ℕ → Bool) (n : ℕ) (w : List ℕ) (short : n ≤ 32) where
-  body-says : (b : Body L) → length (membersOf b) ≤ 32 → MayAll may 0 w → length w ≡ n → Within 0 (length (membersOf b)) w → noneTwice (length (membersOf b)) w ≡ true → bodyMet b w ≡ true → ByBlocks b may n w
-  unfolding ByBlocks blocksOf bodyMet membersOf blockOfGroup membersOfGroup
-  body-says (recordOf is) k r l b t h = let z : 0 + length w ≡ n = omega arith in rw z at (cuts-says may 0 is w 0 (omega arith) h r)
-  body-says (setOf (grouped es st)) k r l b t h =
-      let p = group-says 0 (grouped es st) w (omega arith) h in
+module _ {L : Type 0} (h : Heads) (may : ℕ → ℕ → Bool) (n : ℕ) (w : List ℕ) (short : n ≤ 32) where
+  body-says : (b : Body L) → length (membersOf b) ≤ 32 → MayAll may 0 w → length w ≡ n → Within 0 (length (membersOf b)) w → (plainly h b || noneTwice (length (membersOf b)) w) ≡ true → bodyMet b w ≡ true → ByBlocks h b may n w
+  unfolding ByBlocks plainly blocksOf bodyMet membersOf blockOfGroup membersOfGroup
+  body-says (recordOf is) k r l b t m = let z : 0 + length w ≡ n = omega arith in rw z at (cuts-says may 0 is w 0 (omega arith) m r)
+  body-says (setOf (grouped es st)) k r l b t m =
+      let p = group-says 0 (grouped es st) w (omega arith) m in
       whole-cut may 0 (length es) (minOf st) (maxOf st) n w p r l
-  body-says (superset es) k r l b t h =
-      let o = test-once 0 (length es) w h in
+  body-says (superset es) k r l b t m =
+      let o = test-once 0 (length es) w m in
       let z = length-once 0 (length es) w (omega arith) b o in
       whole-cut may 0 (length es) 0 255 n w (record { within = b; once = o; enough = omega arith; few = omega arith }) r l
-  body-says (subset es) k r l b t h = subset-says may (length es) n w r b l (twice-says (length es) w t) (eqb-true (cnt spare w) 0 h) (omega arith)
+  body-says (subset es) k r l b t m = under-says may (length es) n w (omega arith) (h .sheet) r b l t (eqb-true (cnt spare w) 0 m)
 
   record BodyTest (b : Body L) : Type 0 where
     rights : MayAll may 0 w
     size : length w ≡ n
-    none : noneTwice (length (membersOf b)) w ≡ true
+    none : (plainly h b || noneTwice (length (membersOf b)) w) ≡ true
     test : bodyMet b w ≡ true
 
-  body-test : (b : Body L) → length (membersOf b) ≤ 32 → ByBlocks b may n w → BodyTest b
-  unfolding ByBlocks blocksOf bodyMet membersOf blockOfGroup membersOfGroup
+  body-test : (b : Body L) → length (membersOf b) ≤ 32 → ByBlocks h b may n w → BodyTest b
+  unfolding ByBlocks plainly blocksOf bodyMet membersOf blockOfGroup membersOfGroup
   body-test (recordOf is) k c =
       let u = cuts-test may 0 is 0 n w (omega arith) c in
       let z = u .size in
@@ -325,30 +361,30 @@ module _ {L : Type 0} (may : ℕ → ℕ → Bool) (n : ℕ) (w : List ℕ) (sho
       let u = cut-whole may 0 (length es) 0 255 n w c in
       record { rights = u .1; size = u .2; none = twice-test (length es) w (λ v l. once-few 0 (length es) w (u .0 .once) v (omega arith) (omega arith)); test = once-test 0 (length es) w (u .0 .once) }
   body-test (subset es) k f =
-      let u = subset-test may (length es) n w f (omega arith) in
-      record { rights = u .0; size = f .size; none = twice-test (length es) w (f .once); test = eq-eqb (cnt spare w) 0 (u .1) }
+      let u = under-test may (length es) n w (omega arith) (h .sheet) f in
+      record { rights = u .rights; size = u .size; none = u .none; test = eq-eqb (cnt spare w) 0 (u .given) }
 
 module _ {L X : Type 0} (hits : Elem L → X → Bool) (h : Heads) (b : Body L) (may : ℕ → ℕ → Bool) (xs : List X) (agree : Agree hits (membersOf b) 0 xs may) (few : length (membersOf b) ≤ 32) (short : length xs ≤ 32) (w : List ℕ) where
   abbrev right-bytes : Bool
   right-bytes = rightBytes hits (membersOf b) xs w
 
   abbrev none-twice : Bool
-  none-twice = noneTwice (length (membersOf b)) w
+  none-twice = plainly h b || noneTwice (length (membersOf b)) w
 
   -- an assignment obeys exactly where the length is met and the blocks cut the list, or the members fill it
-  pub obeys-says : obeysBy hits (template h b) xs w ≡ true → ByBlocks b may (length xs) w × (lengthMet (h .length) (length xs) ≡ true)
+  pub obeys-says : obeysBy hits (template h b) xs w ≡ true → ByBlocks h b may (length xs) w × (lengthMet (h .length) (length xs) ≡ true)
   unfolding obeysBy
   obeys-says o =
       let o₁ = and-right right-bytes (none-twice && (bodyMet b w && lengthMet (h .length) (length xs))) o in
       let o₂ = and-right none-twice (bodyMet b w && lengthMet (h .length) (length xs)) o₁ in
       let r = right-says hits (membersOf b) may 0 xs w agree (and-left right-bytes (none-twice && (bodyMet b w && lengthMet (h .length) (length xs))) o) in (
-        body-says may (length xs) w short b few (r .0) (r .1) (right-within hits (membersOf b) may 0 xs w agree (r .0) (r .1)) (and-left none-twice (bodyMet b w && lengthMet (h .length) (length xs)) o₁) (and-left (bodyMet b w) (lengthMet (h .length) (length xs)) o₂),
+        body-says h may (length xs) w short b few (r .0) (r .1) (right-within hits (membersOf b) may 0 xs w agree (r .0) (r .1)) (and-left none-twice (bodyMet b w && lengthMet (h .length) (length xs)) o₁) (and-left (bodyMet b w) (lengthMet (h .length) (length xs)) o₂),
         and-right (bodyMet b w) (lengthMet (h .length) (length xs)) o₂,
       )
 
-  pub obeys-test : ByBlocks b may (length xs) w → lengthMet (h .length) (length xs) ≡ true → obeysBy hits (template h b) xs w ≡ true
+  pub obeys-test : ByBlocks h b may (length xs) w → lengthMet (h .length) (length xs) ≡ true → obeysBy hits (template h b) xs w ≡ true
   unfolding obeysBy
   obeys-test c m =
-      let u = body-test may (length xs) w short b few c in
+      let u = body-test h may (length xs) w short b few c in
       both right-bytes (none-twice && (bodyMet b w && lengthMet (h .length) (length xs))) (right-test hits (membersOf b) may 0 xs w agree (u .rights) (u .size))
       (both none-twice (bodyMet b w && lengthMet (h .length) (length xs)) (u .none) (both (bodyMet b w) (lengthMet (h .length) (length xs)) (u .test) m))

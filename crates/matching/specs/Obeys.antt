@@ -26,7 +26,7 @@ use lib.ListN.{length, take, drop}
 use Rattle.facts.specs.Counting.{between, cnt}
 use Rattle.blocks.specs.Assignment.{allOnce}
 use Rattle.grammar.specs.Element.{Elem}
-use Rattle.grammar.specs.Template.{Star, noStar, star, Group, grouped, Item, one, spares, permutation, Body, recordOf, setOf, superset, subset, Length, anyLength, between as lengthBetween, Template, template, membersOfItem, membersOf}
+use Rattle.grammar.specs.Template.{Star, noStar, star, Group, grouped, Item, one, spares, permutation, Body, recordOf, setOf, superset, subset, Length, anyLength, between as lengthBetween, Template, template, plainly, membersOfItem, membersOf}
 use Rattle.format.specs.declared.Family.{Family}
 use Rattle.grammar.specs.Family.{LeafOf, ElementOf, matchesOf}
 use Rattle.grammar.specs.Members.{memberHits}
@@ -94,10 +94,11 @@ unfoldable pub lengthMet : Length → ℕ → Bool
 lengthMet anyLength n = true
 lengthMet (lengthBetween min max) n = numbered min max n
 
+-- "Under sheet 1 a subset's assignment may give a member many times"
 unfoldable pub obeysBy : {L X : Type 0} → (Elem L → X → Bool) → Template L → List X → List ℕ → Bool
 obeysBy hits (template h b) xs w =
     rightBytes hits (membersOf b) xs w
-    && (noneTwice (length (membersOf b)) w
+    && ((plainly h b || noneTwice (length (membersOf b)) w)
     && (bodyMet b w
     && lengthMet (h .length) (length xs)))
 

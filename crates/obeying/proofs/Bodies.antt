@@ -1,6 +1,6 @@
 -- What each kind of body asks of a witness whose pairs are right, by the members that are left over and the blocks. Assumes nothing.
 use mathlib.Core.Path.{_≡_, refl, sym, ap, _∙_, subst}
-use mathlib.Core.Bool.{Bool, true, false, _&&_}
+use mathlib.Core.Bool.{Bool, true, false, _&&_, cond}
 use mathlib.Core.Logic.{_⊎_, inl, inr, ⊎-elim}
 use mathlib.Core.List.{List, [], _∷_}
 use Prim.Native.Nat.{ℕ, zero, suc, _+_, _≤_, _<_}
@@ -18,8 +18,9 @@ use Rattle.blocks.specs.Numbers.{block, blockIn, blocksIn}
 use Rattle.blocks.specs.Pieces.{Cuts, Passing}
 use Rattle.blocks.proofs.Assignments.{once-test, test-once}
 use Rattle.blocks.proofs.FirstLists.{passing-holds}
-use Rattle.grammar.specs.Template.{grouped, Body, recordOf, setOf, superset, subset, membersOf, membersOfGroup}
-use Rattle.grammar.specs.Blocks.{minOf, maxOf, blockOfGroup, blocksOf, bodyKind}
+use Rattle.grammar.specs.Template.{grouped, Body, recordOf, setOf, superset, subset, isPlain, Heads, plainly, membersOf, membersOfGroup}
+use Rattle.grammar.specs.Element.{Elem}
+use Rattle.grammar.specs.Blocks.{minOf, maxOf, blockOfGroup, blocksOf, bodyKind, kindRead}
 use Rattle.matching.specs.Obeys.{bodyMet}
 use Rattle.matching.proofs.ItemsAsBlocks.{Within, Once, MayAll, Piece, group-says, group-test, length-once}
 use Rattle.matching.proofs.RulesByBlocks.{cuts-says, cuts-test}
@@ -87,6 +88,15 @@ module _ {L : Type 0} (b : Body L) (w : List ℕ) (left : ℕ) (s : Spread b w l
         few = leb-true (length w) (k + max) (and-right (leb (k + min) (length w)) (leb (length w) (k + max)) r);
       }
 
+-- a subset's kind, whichever sheet reads it
+subset-high : {L : Type 0} (h : Heads) (es : List (Elem L)) → 0x13 ≤ kindRead h (subset es)
+unfolding kindRead plainly bodyKind
+subset-high h es = high (isPlain (h .sheet))
+  where
+    high : (p : Bool) → 0x13 ≤ cond p 0x14 0x13
+    high true = omega arith
+    high false = omega arith
+
 -- ---- a set of and a superset: one block
 
 module _ (w : List ℕ) (left : ℕ) (short : length w ≤ 32) (one : Block) (r : Bool) (told : r ≡ (eqb left 0 && (leb (one .k + one .min) (length w) && leb (length w) (one .k + one .max)))) where
@@ -94,21 +104,21 @@ module _ (w : List ℕ) (left : ℕ) (short : length w ≤ 32) (one : Block) (r 
   told-as : (k min max : ℕ) → one ≡ block 0 k min max → r ≡ (eqb left 0 && (leb (k + min) (length w) && leb (length w) (k + max)))
   told-as k min max q = told ∙ rw q refl
 
-  pub one-kind : {L : Type 0} (kind : ℕ) (bs : List Block) (b : Body L) → Says kind bs b → Spread b w left → (kind ≡ 0x13 → ⊥) → (kind ≡ 0x10 → ⊥) → ((c : Block) → bs ≡ c ∷ [] → one ≡ c) → r ≡ bodyMet b w
-  unfolding bodyKind blocksOf bodyMet membersOf membersOfGroup blockOfGroup
-  one-kind kind bs (recordOf is) says s n13 n10 at = absurd (n10 (says .kind-is))
-  one-kind kind bs (subset es) says s n13 n10 at = absurd (n13 (says .kind-is))
-  one-kind kind bs (setOf (grouped es st)) says s n13 n10 at =
+  pub one-kind : {L : Type 0} (kind : ℕ) (bs : List Block) (h : Heads) (b : Body L) → Says kind bs h b → Spread b w left → kind < 0x13 → (kind ≡ 0x10 → ⊥) → ((c : Block) → bs ≡ c ∷ [] → one ≡ c) → r ≡ bodyMet b w
+  unfolding kindRead plainly bodyKind blocksOf bodyMet membersOf membersOfGroup blockOfGroup
+  one-kind kind bs h (recordOf is) says s low n10 at = absurd (n10 (says .kind-is))
+  one-kind kind bs h (subset es) says s low n10 at = let k = says .kind-is in let z = subset-high h es in absurd (omega arith)
+  one-kind kind bs h (setOf (grouped es st)) says s low n10 at =
       told-as (length es) (minOf st) (maxOf st) (at _ (says .cut))
       ∙ same-test _ _
-      (λ h. group-test 0 (grouped es st) w (let f = s .few in omega arith) (tested-piece (setOf (grouped es st)) w left s (minOf st) (maxOf st) h))
-      (λ h. piece-tested (setOf (grouped es st)) w left s (minOf st) (maxOf st) (group-says 0 (grouped es st) w (let f = s .few in omega arith) h))
-  one-kind kind bs (superset es) says s n13 n10 at =
+      (λ u. group-test 0 (grouped es st) w (let f = s .few in omega arith) (tested-piece (setOf (grouped es st)) w left s (minOf st) (maxOf st) u))
+      (λ u. piece-tested (setOf (grouped es st)) w left s (minOf st) (maxOf st) (group-says 0 (grouped es st) w (let f = s .few in omega arith) u))
+  one-kind kind bs h (superset es) says s low n10 at =
       told-as (length es) 0 255 (at _ (says .cut))
       ∙ same-test _ _
-      (λ h. once-test 0 (length es) w (tested-piece (superset es) w left s 0 255 h .once))
-      (λ h.
-      let o = test-once 0 (length es) w h in
+      (λ u. once-test 0 (length es) w (tested-piece (superset es) w left s 0 255 u .once))
+      (λ u.
+      let o = test-once 0 (length es) w u in
       let f = s .few in
       let i = within (superset es) w left s in
       let z = length-once 0 (length es) w (omega arith) i o in
@@ -116,20 +126,20 @@ module _ (w : List ℕ) (left : ℕ) (short : length w ≤ 32) (one : Block) (r 
 
 -- ---- a record of: its blocks; a subset: no spare element
 
-pub record-kind : {L : Type 0} (kind : ℕ) (bs : List Block) (b : Body L) (w : List ℕ) (left : ℕ) (r : Bool) → Says kind bs b → Spread b w left → kind ≡ 0x10 → Passing (Cuts anyPair bs 0 (length w) w) r → r ≡ bodyMet b w
-unfolding bodyKind blocksOf bodyMet membersOf
-record-kind kind bs (recordOf is) w left r says s q h =
+pub record-kind : {L : Type 0} (kind : ℕ) (bs : List Block) (h : Heads) (b : Body L) (w : List ℕ) (left : ℕ) (r : Bool) → Says kind bs h b → Spread b w left → kind ≡ 0x10 → Passing (Cuts anyPair bs 0 (length w) w) r → r ≡ bodyMet b w
+unfolding kindRead plainly bodyKind blocksOf bodyMet membersOf
+record-kind kind bs h (recordOf is) w left r says s q p =
     let f = s .few in
     same-test _ _
-    (λ t. cuts-test anyPair 0 is 0 (length w) w (omega arith) (subst (λ (c : List Block). Cuts anyPair c 0 (length w) w) (says .cut) (h .passed t)) .test)
-    (λ t. passing-holds h (subst (λ (c : List Block). Cuts anyPair c 0 (length w) w) (sym (says .cut)) (rw (zero-add (length w)) at (cuts-says anyPair 0 is w 0 (omega arith) t (any-all 0 w)))))
-record-kind kind bs (setOf g) w left r says s q h = let z = sym q ∙ says .kind-is in absurd (omega arith)
-record-kind kind bs (superset es) w left r says s q h = let z = sym q ∙ says .kind-is in absurd (omega arith)
-record-kind kind bs (subset es) w left r says s q h = let z = sym q ∙ says .kind-is in absurd (omega arith)
+    (λ t. cuts-test anyPair 0 is 0 (length w) w (omega arith) (subst (λ (c : List Block). Cuts anyPair c 0 (length w) w) (says .cut) (p .passed t)) .test)
+    (λ t. passing-holds p (subst (λ (c : List Block). Cuts anyPair c 0 (length w) w) (sym (says .cut)) (rw (zero-add (length w)) at (cuts-says anyPair 0 is w 0 (omega arith) t (any-all 0 w)))))
+record-kind kind bs h (setOf g) w left r says s q p = let z = sym q ∙ says .kind-is in absurd (omega arith)
+record-kind kind bs h (superset es) w left r says s q p = let z = sym q ∙ says .kind-is in absurd (omega arith)
+record-kind kind bs h (subset es) w left r says s q p = let z = sym q ∙ says .kind-is in let y = subset-high h es in absurd (omega arith)
 
-pub subset-kind : {L : Type 0} (kind : ℕ) (bs : List Block) (b : Body L) (w : List ℕ) (r : Bool) → Says kind bs b → kind ≡ 0x13 → r ≡ eqb (cnt 255 w) 0 → r ≡ bodyMet b w
-unfolding bodyKind bodyMet
-subset-kind kind bs (subset es) w r says q h = h
-subset-kind kind bs (recordOf is) w r says q h = let z = sym q ∙ says .kind-is in absurd (omega arith)
-subset-kind kind bs (setOf g) w r says q h = let z = sym q ∙ says .kind-is in absurd (omega arith)
-subset-kind kind bs (superset es) w r says q h = let z = sym q ∙ says .kind-is in absurd (omega arith)
+pub subset-kind : {L : Type 0} (kind : ℕ) (bs : List Block) (h : Heads) (b : Body L) (w : List ℕ) (r : Bool) → Says kind bs h b → 0x13 ≤ kind → r ≡ eqb (cnt 255 w) 0 → r ≡ bodyMet b w
+unfolding kindRead plainly bodyKind bodyMet
+subset-kind kind bs h (subset es) w r says q p = p
+subset-kind kind bs h (recordOf is) w r says q p = let z = says .kind-is in absurd (omega arith)
+subset-kind kind bs h (setOf g) w r says q p = let z = says .kind-is in absurd (omega arith)
+subset-kind kind bs h (superset es) w r says q p = let z = says .kind-is in absurd (omega arith)

@@ -6,7 +6,7 @@ ghost use lib.Dec.{eqb, leb};
 ghost use lib.ListN.{length, take};
 ghost use Rattle.blocks.specs.Numbers.{blocksIn};
 ghost use Rattle.blocks.specs.Pieces.{Inside};
-ghost use Rattle.grammar.specs.Template.{Body};
+ghost use Rattle.grammar.specs.Template.{Body, Heads};
 ghost use Rattle.format.specs.declared.Family.{Family};
 ghost use Rattle.grammar.specs.Family.{LeafOf};
 ghost use Rattle.matching.specs.Obeys.{bodyMet};
@@ -33,9 +33,9 @@ fn one_met(b: Block, left: u64, n: usize) -> bool
 // plain ones one list only is cut), a set of or a superset by its one block, which has all members, a subset by no spare element.
 pub fn body_met(kind: u8, blocks: &[u32; 32], count: usize, left: u64, w: &[u8]) -> bool
     requires { ⌜ (count ≤ 32) × (length (now w) ≤ 32) × Inside (blocksIn (take count (now blocks))) ⌝ }
-    ensures { λ r. ⌜ ((f : Family) (b : Body (LeafOf f)) → Says kind (blocksIn (take count (now (blocks .entry)))) b → Spread b (now (w .entry)) left → r ≡ bodyMet b (now (w .entry))) ⌝ }
+    ensures { λ r. ⌜ ((f : Family) (h : Heads) (b : Body (LeafOf f)) → Says kind (blocksIn (take count (now (blocks .entry)))) h b → Spread b (now (w .entry)) left → r ≡ bodyMet b (now (w .entry))) ⌝ }
 {
-    if kind == SUBSET {
+    if SUBSET <= kind {
         return none_spare(w);
     }
     if kind == RECORD_OF {

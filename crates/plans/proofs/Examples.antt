@@ -12,9 +12,9 @@ use Rattle.grammar.specs.Leaf.{single, any, singleHead, leafHead, reaches, ofTy
 use Rattle.grammar.specs.Record.{countFault, boundsFault, typeFault, groupHead, head}
 use Rattle.grammar.specs.Read.{ended, mapRead, andThen}
 use Rattle.grammar.specs.Reading.{uncounted, opened, elem}
-use Rattle.grammar.specs.Template.{noStar, grouped, setOf, between, membersOfGroup, membersOf}
-use Rattle.grammar.specs.Whole.{clashes, numbered, putMember, thenMembers, member, members, contents, bodyHere, lengthHere, typeHere, headsHere, templateHere, readTemplate}
-use Rattle.grammar.specs.Blocks.{blockOfGroup, blocksOf, bodyKind, Standing}
+use Rattle.grammar.specs.Template.{noStar, grouped, setOf, between, sheet2, plainly, membersOfGroup, membersOf}
+use Rattle.grammar.specs.Whole.{clashes, numbered, putMember, thenMembers, member, members, contents, bodyHere, sheetHere, lengthHere, typeHere, restHere, headsHere, templateHere, readTemplate}
+use Rattle.grammar.specs.Blocks.{blockOfGroup, blocksOf, bodyKind, kindRead, Standing}
 use Rattle.plans.specs.Plans.{PlanOf, refusedPlan, aPlan}
 use Rattle.plans.specs.declared.Plan.{Plan}
 
@@ -25,9 +25,9 @@ plan : Plan
 plan = record { number = 0; low = 1; high = 3; sort = record { word = 23 }; kind = 0x11; count = 1; members = 2; blocks = 512 ∷ replicate 31 0; places = 14 ∷ 15 ∷ replicate 30 0 }
 
 set-planned : PlanOf Family.Integers bytes plan
-unfolding bytes plan readTemplate templateHere headsHere lengthHere typeHere typeFault andThen ofType reaches bodyHere contents members member numbered thenMembers putMember elem opened head groupHead leafHead singleHead boundsFault countFault clashes uncounted ended mapRead intAt signed blocksOf blockOfGroup bodyKind membersOf membersOfGroup numberOf blockIn numbersOf blocksIn Standing
+unfolding bytes plan readTemplate templateHere headsHere sheetHere lengthHere typeHere restHere typeFault andThen ofType reaches bodyHere contents members member numbered thenMembers putMember elem opened head groupHead leafHead singleHead boundsFault countFault clashes uncounted ended mapRead intAt signed blocksOf blockOfGroup bodyKind kindRead plainly membersOf membersOfGroup numberOf blockIn numbersOf blocksIn Standing
 set-planned =
-    aPlan (record { length = between 1 3; lower = lib.IntN.pos 0; upper = lib.IntN.pos 23 }) (setOf (grouped (leaf any ∷ leaf (single (lib.IntN.pos 1)) ∷ []) noStar)) refl refl
+    aPlan (record { sheet = sheet2; length = between 1 3; lower = lib.IntN.pos 0; upper = lib.IntN.pos 23 }) (setOf (grouped (leaf any ∷ leaf (single (lib.IntN.pos 1)) ∷ []) noStar)) refl refl
     (record {
       lower = refl;
       upper = refl;
@@ -47,6 +47,6 @@ plan-of-none : Plan
 plan-of-none = record { number = 3; low = 0; high = 0; sort = record { word = 0 }; kind = 0; count = 0; members = 0; blocks = replicate 32 0; places = replicate 32 0 }
 
 none-planned : (fam : Family) → PlanOf fam [] plan-of-none
-unfolding plan-of-none readTemplate templateHere headsHere lengthHere typeHere andThen bodyHere ended
+unfolding plan-of-none readTemplate templateHere headsHere sheetHere lengthHere typeHere restHere andThen bodyHere ended
 none-planned Family.Integers = refusedPlan 3 refl (omega arith) refl
 none-planned Family.Floats = refusedPlan 3 refl (omega arith) refl

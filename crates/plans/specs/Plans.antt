@@ -1,7 +1,7 @@
 -- What a plan says of the bytes of a template.
 -- noPlan number   == the plan of bytes that are refused with this number: all else is 0
 -- Planned f t h b p <-> the plan p says of the template of the family f with the heads h and the body b, whose bytes are t: its length bounds, the family
---                    and the type of its leaves, its kind, how many blocks it has and which (after them stands 0), how many members it has, and where they stand
+--                    and the type of its leaves, its kind as its sheet reads it, how many blocks it has and which (after them stands 0), how many members it has, and where they stand
 -- PlanOf f t p   <-> p is the plan of the bytes t: noPlan of the refusal's number; or 0 and what Planned says
 -- Which places a plan has is all that these leave open: an element template that stands twice in the bytes may be named by either place.
 -- Assumes nothing: these are definitions.
@@ -15,7 +15,7 @@ use Rattle.format.specs.declared.Family.{Family}
 use Rattle.grammar.specs.Family.{LeafOf}
 use Rattle.grammar.specs.Read.{refuse, got}
 use Rattle.grammar.specs.Whole.{readTemplate}
-use Rattle.grammar.specs.Blocks.{blocksOf, bodyKind, lowOf, highOf, Standing}
+use Rattle.grammar.specs.Blocks.{blocksOf, kindRead, lowOf, highOf, Standing}
 use Rattle.sorts.specs.Sorts.{wordOf}
 use Rattle.plans.specs.declared.Plan.{Plan}
 
@@ -26,7 +26,7 @@ pub record Planned (f : Family) (t : List ℕ) (h : Heads) (b : Body (LeafOf f))
   pub lower : p .low ≡ lowOf (h .length)
   pub upper : p .high ≡ highOf (h .length)
   pub sort : p .sort .word ≡ wordOf f (h .lower) (h .upper)
-  pub kind : p .kind ≡ bodyKind b
+  pub kind : p .kind ≡ kindRead h b
   pub fewBlocks : p .count ≤ 32
   pub count : p .count ≡ length (blocksOf b)
   pub cut : blocksIn (take (p .count) (p .blocks)) ≡ blocksOf b

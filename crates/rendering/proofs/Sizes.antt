@@ -18,7 +18,7 @@ use Rattle.grammar.specs.Leaf.{Leaf}
 use Rattle.grammar.specs.Matches.{matches}
 use Rattle.grammar.specs.Members.{memberHits}
 use Rattle.grammar.specs.Read.{Read, got, orRefuse, refuseOr, verdict}
-use Rattle.grammar.specs.Template.{Template, template, membersOf}
+use Rattle.grammar.specs.Template.{Template, template, plainly, membersOf}
 use Rattle.grammar.specs.Whole.{readTemplate}
 use Rattle.grammar.proofs.MemberLimit.{accepted-few, accepted-short}
 use Rattle.grammar.proofs.ReadApart.{clash}
@@ -97,7 +97,7 @@ obeys-bytes : (t : List ℕ) (s : Template Leaf) (xs : List ℤ) (w : List ℕ) 
 unfolding obeysBy
 obeys-bytes t (template h b) xs w q o =
     right-size (membersOf b) xs w (accepted-few Family.Integers t h b q)
-    (and-left (rightBytes matches (membersOf b) xs w) (noneTwice (length (membersOf b)) w && (bodyMet b w && lengthMet (h .length) (length xs))) o)
+    (and-left (rightBytes matches (membersOf b) xs w) ((plainly h b || noneTwice (length (membersOf b)) w) && (bodyMet b w && lengthMet (h .length) (length xs))) o)
 
 -- ---- the line of a list
 

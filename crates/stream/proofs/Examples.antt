@@ -7,7 +7,7 @@ use Rattle.grammar.specs.Record.{countFault, boundsFault, groupHead, head}
 use Rattle.grammar.specs.Leaf.{singleHead, rangeHead, leafHead}
 use Rattle.grammar.specs.Read.{refuse, got, verdict, ended, mapRead, andThen}
 use Rattle.grammar.specs.Reading.{uncounted, putFirst, thenMore, many, closed, tooDeep, opened, elem}
-use Rattle.grammar.specs.Whole.{starHere, numbered, putMember, thenMembers, thenStar, putItem, thenItems, clashes, member, members, permutationHere, item, items, contents, bodyHere, lengthHere, typeHere, headsHere, templateHere, readTemplate}
+use Rattle.grammar.specs.Whole.{starHere, numbered, putMember, thenMembers, thenStar, putItem, thenItems, clashes, member, members, permutationHere, item, items, contents, bodyHere, sheetHere, lengthHere, typeHere, restHere, headsHere, templateHere, readTemplate}
 use Rattle.stream.specs.Input.{recordFault, putInteger, integers, listFault, listHere, reached}
 
 -- a list of two integers, and a byte after it
@@ -27,10 +27,10 @@ count-decides = refl
 
 -- a template that is accepted, and a list after it
 template-reached : reached (80 ∷ 2 ∷ 0 ∷ 16 ∷ 0 ∷ 64 ∷ 0 ∷ []) ≡ got (16 ∷ 0 ∷ []) (64 ∷ 0 ∷ [])
-unfolding signed intAt countFault boundsFault groupHead head singleHead rangeHead leafHead verdict ended uncounted putFirst thenMore many closed tooDeep opened elem mapRead starHere numbered putMember thenMembers thenStar putItem thenItems clashes member members permutationHere item items contents bodyHere lengthHere typeHere headsHere andThen templateHere readTemplate recordFault reached
+unfolding signed intAt countFault boundsFault groupHead head singleHead rangeHead leafHead verdict ended uncounted putFirst thenMore many closed tooDeep opened elem mapRead starHere numbered putMember thenMembers thenStar putItem thenItems clashes member members permutationHere item items contents bodyHere sheetHere lengthHere typeHere restHere headsHere andThen templateHere readTemplate recordFault reached
 template-reached = refl
 
 -- the template's own refusal, before the list is looked at
 template-refused : reached (80 ∷ 3 ∷ 0 ∷ 16 ∷ 0 ∷ 255 ∷ 64 ∷ 0 ∷ []) ≡ refuse 10
-unfolding signed intAt countFault boundsFault groupHead head singleHead rangeHead leafHead verdict ended uncounted putFirst thenMore many closed tooDeep opened elem mapRead starHere numbered putMember thenMembers thenStar putItem thenItems clashes member members permutationHere item items contents bodyHere lengthHere typeHere headsHere andThen templateHere readTemplate recordFault reached
+unfolding signed intAt countFault boundsFault groupHead head singleHead rangeHead leafHead verdict ended uncounted putFirst thenMore many closed tooDeep opened elem mapRead starHere numbered putMember thenMembers thenStar putItem thenItems clashes member members permutationHere item items contents bodyHere sheetHere lengthHere typeHere restHere headsHere andThen templateHere readTemplate recordFault reached
 template-refused = refl

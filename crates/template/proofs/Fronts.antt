@@ -1,18 +1,18 @@
 -- What stands before the items: the heads and the record of the body together. Assumes nothing.
-use mathlib.Core.Path.{_≡_, sym, ap, _∙_}
+use mathlib.Core.Path.{_≡_, sym, ap, ap₂, _∙_}
 use mathlib.Core.List.{List}
 use Prim.Native.Nat.{ℕ, _+_, _≤_, _<_}
 use native.Mathlib.Omega.{arith}
 use lib.ListN.{length, getD, drop}
 use lib.Seq.{getD-drop, drop-drop}
-use Rattle.grammar.specs.Template.{Length, Heads, template}
+use Rattle.grammar.specs.Template.{Length, Sheet, Heads, template}
 use Rattle.format.specs.declared.Family.{Family}
 use Rattle.grammar.specs.Family.{leavesIn}
 use Rattle.grammar.specs.Read.{Read, refuse, refuseOr, mapRead, andThen}
 use Rattle.grammar.specs.Whole.{contents, bodyHere, headsHere, templateHere}
 use Rattle.sorts.specs.Sorts.{Sorted}
 use Rattle.sorts.proofs.Words.{said}
-use Rattle.heads.specs.Fronts.{lengthOf, ownFault, Said, HeadsAt, headsFault, headsRead}
+use Rattle.heads.specs.Fronts.{sheetFor, lengthOf, ownFault, Said, HeadsAt, headsFault, headsRead}
 use Rattle.heads.proofs.HeadRecords.{body-by, own-inv}
 use Rattle.grammar.proofs.RecordParts.{kind-at}
 use Rattle.grammar.proofs.ReadApart.{refuse-is, refuse-not}
@@ -20,7 +20,7 @@ use Rattle.heads.specs.declared.Heads.{Heads as HeadsStruct}
 
 -- `code` is the fault of the body's own record, after the heads h
 abbrev pub AfterHeads : List ℕ → HeadsStruct → ℕ → Type 0
-AfterHeads t h code = code ≡ ownFault (lengthOf (h .given) (h .min) (h .max)) (drop (h .next) t)
+AfterHeads t h code = code ≡ ownFault (sheetFor (h .plain)) (lengthOf (h .given) (h .min) (h .max)) (drop (h .next) t)
 
 -- the heads and the record of the body are all there, and the items follow
 pub record Front (fam : Family) (t : List ℕ) (h : HeadsStruct) : Type 0 where
@@ -46,16 +46,12 @@ module _ (fam : Family) (t : List ℕ) (h : HeadsStruct) where
   heads-refused (headsFault code q p e) n = after (refuse code) q ∙ ap (λ (x : HeadsStruct). refuse (x .code)) (sym e)
   heads-refused (headsRead a q z i s) n = absurd (n z)
 
-  pub heads-inside : HeadsAt fam t (headsHere fam t) h → h .code ≡ 0 → h .next ≤ length t
-  heads-inside (headsFault code q p e) z = absurd (no-fault code p (ap (λ (x : HeadsStruct). x .code) e) z)
-  heads-inside (headsRead a q z′ i s) z = i
-
   module _ (code : ℕ) (b : AfterHeads t h code) where
     -- the body after these heads
     body-after : (a : Heads) → Said fam a h → bodyHere (leavesIn fam (a .lower) (a .upper)) a (drop (h .next) t)
         ≡ refuseOr code (mapRead (template a) (contents (leavesIn fam (a .lower) (a .upper)) (getD t (h .next) 0) (getD t (h .next + 1) 0) (drop (h .next + 2) t)))
     body-after a s =
-        let own : ownFault (a .length) (drop (h .next) t) ≡ code = ap (λ (l : Length). ownFault l (drop (h .next) t)) (s .attribute) ∙ sym b in
+        let own : ownFault (a .sheet) (a .length) (drop (h .next) t) ≡ code = ap₂ (λ (v : Sheet) (l : Length). ownFault v l (drop (h .next) t)) (s .sheet) (s .attribute) ∙ sym b in
         body-by (leavesIn fam (a .lower) (a .upper)) a (drop (h .next) t) ∙ rw (own, kind-at t (h .next), getD-drop (h .next) t 1 0, drop-drop 2 (h .next) t)
 
     pub body-refused : HeadsAt fam t (headsHere fam t) h → h .code ≡ 0 → (code ≡ 0 → ⊥) → templateHere fam t ≡ refuse code
@@ -67,7 +63,7 @@ module _ (fam : Family) (t : List ℕ) (h : HeadsStruct) where
     unfolding andThen
     front-of (headsFault c q p e) z y = absurd (no-fault c p (ap (λ (x : HeadsStruct). x .code) e) z)
     front-of (headsRead a q z′ i s) z y =
-        let r = own-inv _ t (h .next) (sym b ∙ y) in
+        let r = own-inv _ _ t (h .next) (sym b ∙ y) in
         record { heads = a; reads = after _ q ∙ body-after a s ∙ refuse-not code _ y; says = s; fits = r .fits; low = r .low; high = r .high; few = r .few }
 
 -- the sort that the heads say

@@ -14,14 +14,14 @@ use Rattle.floats.specs.Leaves.{oneFault, boundsFault as floatBoundsFault, floa
 use Rattle.masks.specs.Masks.{bit}
 use Rattle.facts.specs.Counting.{between, cnt, count, anyBelow}
 use Rattle.blocks.specs.Assignment.{allOnce, wanted}
-use Rattle.grammar.specs.Template.{Template, membersOfGroup, membersOfItem, membersOfItems, membersOf}
-use Rattle.grammar.specs.Record.{countFault, boundsFault, typeFault, groupHead, head}
+use Rattle.grammar.specs.Template.{Template, plainly, membersOfGroup, membersOfItem, membersOfItems, membersOf}
+use Rattle.grammar.specs.Record.{countFault, boundsFault, sheetFault, typeFault, groupHead, head}
 use Rattle.grammar.specs.Leaf.{singleHead, rangeHead, leafHead, reaches, ofType}
 use Rattle.grammar.specs.FloatLeaf.{oneHead, floatRangeHead, floatHead}
 use Rattle.grammar.specs.Family.{LeafOf, ElementOf, someOutside}
 use Rattle.grammar.specs.Read.{Read, refuse, got, ended, mapRead, andThen}
 use Rattle.grammar.specs.Reading.{uncounted, putFirst, thenMore, many, closed, tooDeep, opened, elem}
-use Rattle.grammar.specs.Whole.{starHere, numbered, putMember, thenMembers, thenStar, putItem, thenItems, clashes, member, members, permutationHere, item, items, contents, bodyHere, lengthHere, typeHere, headsHere, templateHere, readTemplate}
+use Rattle.grammar.specs.Whole.{starHere, numbered, putMember, thenMembers, thenStar, putItem, thenItems, clashes, member, members, permutationHere, item, items, contents, bodyHere, sheetHere, lengthHere, typeHere, restHere, headsHere, templateHere, readTemplate}
 use Rattle.grammar.specs.Matches.{matchesBy, leafMatches}
 use Rattle.grammar.specs.Members.{memberHits}
 use Rattle.matching.specs.Obeys.{rightBytes, noneTwice, allSpare, withinBlock, starMet, groupTakes, itemTakes, someCut, cuts, bodyMet, lengthMet, obeysBy}
@@ -66,6 +66,9 @@ examples =
     row (18 ∷ 1 ∷ 3 ∷ []) (pos 5 ∷ []) 0 0 ∷  -- superset(?) on 5 matches
     row (19 ∷ 1 ∷ 1 ∷ 5 ∷ 0 ∷ 0 ∷ 0 ∷ []) (pos 5 ∷ pos 5 ∷ []) 1 3 ∷  -- subset(5) on 5, 5: both elements have one member
     row (19 ∷ 1 ∷ 1 ∷ 5 ∷ 0 ∷ 0 ∷ 0 ∷ []) (pos 5 ∷ pos 6 ∷ []) 1 2 ∷  -- subset(5) on 5, 6: nobody is 6
+    row (50 ∷ 2 ∷ 19 ∷ 1 ∷ 1 ∷ 5 ∷ 0 ∷ 0 ∷ 0 ∷ []) (pos 6 ∷ []) 1 1 ∷  -- subset(5) under sheet 2 on 6
+    row (50 ∷ 1 ∷ 19 ∷ 1 ∷ 1 ∷ 5 ∷ 0 ∷ 0 ∷ 0 ∷ []) (pos 6 ∷ []) 1 0 ∷  -- the same under sheet 1: no group
+    row (50 ∷ 1 ∷ 18 ∷ 1 ∷ 3 ∷ []) ([]) 1 1 ∷  -- superset(?) under sheet 1 on the empty list
     row (16 ∷ 1 ∷ 1 ∷ 5 ∷ 0 ∷ 0 ∷ 0 ∷ []) (pos 6 ∷ []) 1 0 ∷  -- record of 5 on 6: no group
     row (17 ∷ 2 ∷ 1 ∷ 1 ∷ 0 ∷ 0 ∷ 0 ∷ 32 ∷ 0 ∷ 255 ∷ []) (pos 2 ∷ []) 1 0 ∷  -- set of (1, *) on 2: no group, though superset(1) has the same block
     row (48 ∷ 1 ∷ 1 ∷ 18 ∷ 1 ∷ 3 ∷ []) ([]) 1 0 ∷  -- superset(?) length(1) on the empty list: the length is not met
@@ -77,7 +80,7 @@ examples =
     []
 
 examples-right : right Family.Integers examples ≡ true
-unfolding someOutside right isRead isGroup isReason isMost every examples bit count anyBelow wanted pairs askedBy askedOf signed intAt between cnt allOnce membersOfGroup membersOfItem membersOfItems membersOf countFault boundsFault typeFault groupHead head singleHead rangeHead leafHead reaches ofType ended uncounted putFirst thenMore many closed tooDeep opened elem mapRead starHere numbered putMember thenMembers thenStar putItem thenItems clashes member members permutationHere item items contents bodyHere lengthHere typeHere headsHere andThen templateHere readTemplate matchesBy leafMatches memberHits rightBytes noneTwice allSpare withinBlock starMet groupTakes itemTakes someCut cuts bodyMet lengthMet obeysBy put orElse tryEach firstOf from membersCount firstWitness written elementOutside matchRead matchAnswer
+unfolding someOutside right isRead isGroup isReason isMost every examples bit count anyBelow wanted pairs askedBy askedOf signed intAt between cnt allOnce membersOfGroup membersOfItem membersOfItems membersOf countFault boundsFault sheetFault typeFault groupHead head singleHead rangeHead leafHead reaches ofType ended uncounted putFirst thenMore many closed tooDeep opened elem mapRead starHere numbered putMember thenMembers thenStar putItem thenItems clashes member members permutationHere item items contents bodyHere sheetHere lengthHere typeHere restHere headsHere andThen templateHere readTemplate matchesBy leafMatches memberHits rightBytes noneTwice allSpare withinBlock starMet groupTakes itemTakes someCut cuts bodyMet lengthMet plainly obeysBy put orElse tryEach firstOf from membersCount firstWitness written elementOutside matchRead matchAnswer
 examples-right = refl
 
 -- ---- floats
@@ -108,5 +111,5 @@ floatExamples =
     []
 
 float-examples-right : right Family.Floats floatExamples ≡ true
-unfolding ofBits isNan eq lt le floatAt oneFault floatBoundsFault floatMatches oneHead floatRangeHead floatHead floatExamples right isRead isGroup isReason isMost every bit count anyBelow wanted pairs askedBy askedOf between cnt allOnce membersOfGroup membersOfItem membersOfItems membersOf countFault boundsFault groupHead head ended uncounted putFirst thenMore many closed tooDeep opened elem mapRead starHere numbered putMember thenMembers thenStar putItem thenItems clashes member members permutationHere item items contents bodyHere lengthHere typeHere headsHere andThen templateHere readTemplate matchesBy memberHits rightBytes noneTwice allSpare withinBlock starMet groupTakes itemTakes someCut cuts bodyMet lengthMet obeysBy put orElse tryEach firstOf from membersCount firstWitness written elementOutside matchRead matchAnswer
+unfolding ofBits isNan eq lt le floatAt oneFault floatBoundsFault floatMatches oneHead floatRangeHead floatHead floatExamples right isRead isGroup isReason isMost every bit count anyBelow wanted pairs askedBy askedOf between cnt allOnce membersOfGroup membersOfItem membersOfItems membersOf countFault boundsFault groupHead head ended uncounted putFirst thenMore many closed tooDeep opened elem mapRead starHere numbered putMember thenMembers thenStar putItem thenItems clashes member members permutationHere item items contents bodyHere sheetHere lengthHere typeHere restHere headsHere andThen templateHere readTemplate matchesBy memberHits rightBytes noneTwice allSpare withinBlock starMet groupTakes itemTakes someCut cuts bodyMet lengthMet plainly obeysBy put orElse tryEach firstOf from membersCount firstWitness written elementOutside matchRead matchAnswer
 float-examples-right = refl

@@ -12,14 +12,14 @@ use lib.Dec.{eqb, leb}
 use lib.ListN.{length, getD, take}
 use borrow.Author.Tests.{lt-ltb, eqb-true, eq-eqb}
 use Rattle.rows.specs.Rows.{may}
-use Rattle.facts.proofs.Cases.{clash, one-of, or-left, or-right}
+use Rattle.facts.proofs.Cases.{by-test, clash, one-of, or-left, or-right}
 use Rattle.grammar.specs.Element.{Elem}
 use Rattle.format.specs.declared.Family.{Family}
 use Rattle.grammar.specs.Family.{LeafOf, ElementOf, noElement, matchesOf}
-use Rattle.grammar.specs.Template.{Body, recordOf, setOf, superset, subset, Heads, Template, template, membersOf}
+use Rattle.grammar.specs.Template.{Body, recordOf, setOf, superset, subset, isPlain, Heads, plainly, Template, template, membersOf}
 use Rattle.grammar.specs.Read.{got}
 use Rattle.grammar.specs.Whole.{readTemplate}
-use Rattle.grammar.specs.Blocks.{bodyKind, Standing}
+use Rattle.grammar.specs.Blocks.{bodyKind, kindRead, Standing}
 use Rattle.grammar.specs.Members.{memberHits}
 use Rattle.grammar.proofs.MemberLimit.{accepted-short}
 use Rattle.plans.specs.Plans.{Planned, PlanOf, refusedPlan, aPlan}
@@ -58,37 +58,37 @@ module _ (fam : Family) (t : List ℕ) (xs : List (ElementOf fam)) where
 -- ---- by the length and the kind
 unmet-asks : (fam : Family) (h : Heads) (b : Body (LeafOf fam)) (xs : List (ElementOf fam)) → lengthMet (h .length) (length xs) ≡ false → Grouped (askedOf fam (template h b) xs) 0
 unfolding askedOf Grouped
-unmet-asks fam h b xs m = subst (λ (s : Bool). Grouped (cond s (askedBy fam b xs) ofNothing) 0) (sym m) refl
+unmet-asks fam h b xs m = subst (λ (s : Bool). Grouped (cond s (askedBy fam h b xs) ofNothing) 0) (sym m) refl
 
-body-asks : (fam : Family) (h : Heads) (b : Body (LeafOf fam)) (xs : List (ElementOf fam)) (g : ℕ) → lengthMet (h .length) (length xs) ≡ true → Grouped (askedBy fam b xs) g → Grouped (askedOf fam (template h b) xs) g
+body-asks : (fam : Family) (h : Heads) (b : Body (LeafOf fam)) (xs : List (ElementOf fam)) (g : ℕ) → lengthMet (h .length) (length xs) ≡ true → Grouped (askedBy fam h b xs) g → Grouped (askedOf fam (template h b) xs) g
 unfolding askedOf
-body-asks fam h b xs g m asks = subst (λ (s : Bool). Grouped (cond s (askedBy fam b xs) ofNothing) g) (sym m) asks
+body-asks fam h b xs g m asks = subst (λ (s : Bool). Grouped (cond s (askedBy fam h b xs) ofNothing) g) (sym m) asks
 
-other-asks : (fam : Family) (b : Body (LeafOf fam)) (xs : List (ElementOf fam)) → (bodyKind b ≡ 0x12 → ⊥) → (bodyKind b ≡ 0x13 → ⊥) → Grouped (askedBy fam b xs) 0
-unfolding bodyKind askedBy Grouped
-other-asks fam (recordOf is) xs n o = refl
-other-asks fam (setOf g) xs n o = refl
-other-asks fam (superset es) xs n o = absurd (n refl)
-other-asks fam (subset es) xs n o = absurd (o refl)
+other-asks : (fam : Family) (h : Heads) (b : Body (LeafOf fam)) (xs : List (ElementOf fam)) → (kindRead h b ≡ 0x12 → ⊥) → (kindRead h b ≡ 0x13 → ⊥) → Grouped (askedBy fam h b xs) 0
+unfolding kindRead plainly bodyKind askedBy Grouped
+other-asks fam h (recordOf is) xs n o = refl
+other-asks fam h (setOf g) xs n o = refl
+other-asks fam h (superset es) xs n o = absurd (n refl)
+other-asks fam h (subset es) xs n o = by-test (isPlain (h .sheet)) (λ p. rw p refl) (λ p. absurd (o (rw p)))
 
 -- the rows say what `pairs` says
 rows-pairs : {fam : Family} {es : List (Elem (LeafOf fam))} {xs : List (ElementOf fam)} {rows : List ℕ} → RowsOf fam es xs rows → (m e : ℕ) → m < length es → e < length xs → may rows m e ≡ pairs fam es xs m e
 unfolding pairs
 rows-pairs {fam} {es} {xs} r m e l h = r .right m e l h ∙ sym (ap (λ (s : Bool). s && memberHits (matchesOf fam) es m (getD xs e (noElement fam))) (lt-ltb e (length xs) h))
 
-superset-asks : (fam : Family) (b : Body (LeafOf fam)) (xs : List (ElementOf fam)) (rows : List ℕ) (g : ℕ) → bodyKind b ≡ 0x12 → RowsOf fam (membersOf b) xs rows → Given (may rows) (length (membersOf b)) (length xs) g → Grouped (askedBy fam b xs) g
-unfolding bodyKind askedBy Grouped membersOf
-superset-asks fam (recordOf is) xs rows g k r h = absurd (omega arith)
-superset-asks fam (setOf x) xs rows g k r h = absurd (omega arith)
-superset-asks fam (superset es) xs rows g k r h = given-agree (rows-pairs r) h
-superset-asks fam (subset es) xs rows g k r h = absurd (omega arith)
+superset-asks : (fam : Family) (h : Heads) (b : Body (LeafOf fam)) (xs : List (ElementOf fam)) (rows : List ℕ) (g : ℕ) → kindRead h b ≡ 0x12 → RowsOf fam (membersOf b) xs rows → Given (may rows) (length (membersOf b)) (length xs) g → Grouped (askedBy fam h b xs) g
+unfolding kindRead plainly bodyKind askedBy Grouped membersOf
+superset-asks fam h (recordOf is) xs rows g k r w = absurd (omega arith)
+superset-asks fam h (setOf x) xs rows g k r w = absurd (omega arith)
+superset-asks fam h (superset es) xs rows g k r w = given-agree (rows-pairs r) w
+superset-asks fam h (subset es) xs rows g k r w = by-test (isPlain (h .sheet)) (λ p. let z : _≡_ {A = ℕ} 0x14 0x12 = rw p at k in absurd (omega arith)) (λ p. let z : _≡_ {A = ℕ} 0x13 0x12 = rw p at k in absurd (omega arith))
 
-subset-asks : (fam : Family) (b : Body (LeafOf fam)) (xs : List (ElementOf fam)) (rows : List ℕ) (g : ℕ) → bodyKind b ≡ 0x13 → RowsOf fam (membersOf b) xs rows → Given (λ e m. may rows m e) (length xs) (length (membersOf b)) g → Grouped (askedBy fam b xs) g
-unfolding bodyKind askedBy Grouped membersOf
-subset-asks fam (recordOf is) xs rows g k r h = absurd (omega arith)
-subset-asks fam (setOf x) xs rows g k r h = absurd (omega arith)
-subset-asks fam (superset es) xs rows g k r h = absurd (omega arith)
-subset-asks fam (subset es) xs rows g k r h = given-agree (λ e m l i. rows-pairs r m e i l) h
+subset-asks : (fam : Family) (h : Heads) (b : Body (LeafOf fam)) (xs : List (ElementOf fam)) (rows : List ℕ) (g : ℕ) → kindRead h b ≡ 0x13 → RowsOf fam (membersOf b) xs rows → Given (λ e m. may rows m e) (length xs) (length (membersOf b)) g → Grouped (askedBy fam h b xs) g
+unfolding kindRead plainly bodyKind askedBy Grouped membersOf
+subset-asks fam h (recordOf is) xs rows g k r w = absurd (omega arith)
+subset-asks fam h (setOf x) xs rows g k r w = absurd (omega arith)
+subset-asks fam h (superset es) xs rows g k r w = absurd (omega arith)
+subset-asks fam h (subset es) xs rows g k r w = by-test (isPlain (h .sheet)) (λ p. let z : _≡_ {A = ℕ} 0x14 0x13 = rw p at k in absurd (omega arith)) (λ p. rw p (given-agree (λ e m l i. rows-pairs r m e i l) w))
 
 -- ---- by the plan, of a list of n elements
 module _ (fam : Family) (t : List ℕ) (p : Plan) (xs : List (ElementOf fam)) (n : ℕ) (size : length xs ≡ n) (short : n ≤ 32) (plan : PlanOf fam t p) (passed : Passed fam t p xs) (met : Bool) (says : met ≡ (leb (p .low) n && leb n (p .high))) where
@@ -102,20 +102,20 @@ module _ (fam : Family) (t : List ℕ) (p : Plan) (xs : List (ElementOf fam)) (n
   group-unmet m = group-by fam t xs p 0 plan passed few (λ h b pl. unmet-asks fam h b xs (met-is h b pl ∙ m))
 
   module _ (m : met ≡ true) where
-    by-body : (g : ℕ) → ((h : Heads) (b : Body (LeafOf fam)) → Planned fam t h b p → Grouped (askedBy fam b xs) g) → GroupFor fam t xs g
+    by-body : (g : ℕ) → ((h : Heads) (b : Body (LeafOf fam)) → Planned fam t h b p → Grouped (askedBy fam h b xs) g) → GroupFor fam t xs g
     by-body g asks = group-by fam t xs p g plan passed few (λ h b pl. body-asks fam h b xs g (met-is h b pl ∙ m) (asks h b pl))
 
     pub group-other : (p .kind ≡ 0x12 → ⊥) → (p .kind ≡ 0x13 → ⊥) → GroupFor fam t xs 0
-    group-other n o = by-body 0 (λ h b pl. other-asks fam b xs (λ k. n (pl .kind ∙ k)) (λ k. o (pl .kind ∙ k)))
+    group-other n o = by-body 0 (λ h b pl. other-asks fam h b xs (λ k. n (pl .kind ∙ k)) (λ k. o (pl .kind ∙ k)))
 
     module _ (rows : List ℕ) (right : (es : List (Elem (LeafOf fam))) → Standing fam t es (take (p .members) (p .places)) → RowsOf fam es xs rows) (g : ℕ) where
       pub group-superset : p .kind ≡ 0x12 → Given (may rows) (p .members) n g → GroupFor fam t xs g
       group-superset k given = by-body g (λ h b pl.
-          superset-asks fam b xs rows g (sym (pl .kind) ∙ k) (right (membersOf b) (pl .stands)) (subst₂ (λ (i j : ℕ). Given (may rows) i j g) (pl .size) (sym size) given))
+          superset-asks fam h b xs rows g (sym (pl .kind) ∙ k) (right (membersOf b) (pl .stands)) (subst₂ (λ (i j : ℕ). Given (may rows) i j g) (pl .size) (sym size) given))
 
       pub group-subset : p .kind ≡ 0x13 → Given (λ e m. may rows m e) n (p .members) g → GroupFor fam t xs g
       group-subset k given = by-body g (λ h b pl.
-          subset-asks fam b xs rows g (sym (pl .kind) ∙ k) (right (membersOf b) (pl .stands)) (subst₂ (λ (i j : ℕ). Given (λ e m. may rows m e) i j g) (sym size) (pl .size) given))
+          subset-asks fam h b xs rows g (sym (pl .kind) ∙ k) (right (membersOf b) (pl .stands)) (subst₂ (λ (i j : ℕ). Given (λ e m. may rows m e) i j g) (sym size) (pl .size) given))
 
 -- ---- the test of the kind
 pub neither : (kind : ℕ) → (eqb kind 0x12 || eqb kind 0x13) ≡ false → (kind ≡ 0x12 → ⊥) × (kind ≡ 0x13 → ⊥)

@@ -2,8 +2,8 @@
 -- pairs f es xs m e   == member m of es matches element e of xs
 -- Asked             == of what a group is given where the list does not match: of nothing, or of k members and n elements, `ok v e` saying that member v
 --                      matches element e
--- askedBy f b xs      == what is asked of a list that meets the length attribute: of a superset the members; of a subset the same "with elements and members
---                      exchanged"; "in every other case" nothing
+-- askedBy f h b xs    == what is asked of a list that meets the length attribute: of a superset the members; of a "subset under sheet 2" the same "with
+--                      elements and members exchanged"; "in every other case" nothing
 -- askedOf f s xs      == what is asked of the template s and the list xs: of one that does not meet "any length attribute" nothing
 -- GroupOf q r g    <-> with the matcher's number r, g is the mask of the group that is given, 0 where none is
 -- GroupRead f o xs r g <-> the same for a template that was read as o
@@ -20,7 +20,7 @@ use Rattle.masks.specs.Masks.{bit}
 use Rattle.grammar.specs.Element.{Elem}
 use Rattle.format.specs.declared.Family.{Family}
 use Rattle.grammar.specs.Family.{LeafOf, ElementOf, noElement, matchesOf}
-use Rattle.grammar.specs.Template.{Body, recordOf, setOf, superset, subset, Template, template}
+use Rattle.grammar.specs.Template.{Body, recordOf, setOf, superset, subset, isPlain, Heads, Template, template}
 use Rattle.grammar.specs.Read.{Read, refuse, got}
 use Rattle.grammar.specs.Whole.{readTemplate}
 use Rattle.grammar.specs.Members.{memberHits}
@@ -35,14 +35,14 @@ pub data Asked : Type 0 where
   ofNothing : Asked
   ofGroups : (ℕ → ℕ → Bool) → ℕ → ℕ → Asked
 
-unfoldable pub askedBy : (f : Family) → Body (LeafOf f) → List (ElementOf f) → Asked
-askedBy f (recordOf is) xs = ofNothing
-askedBy f (setOf g) xs = ofNothing
-askedBy f (superset es) xs = ofGroups (pairs f es xs) (length es) (length xs)
-askedBy f (subset es) xs = ofGroups (λ e m. pairs f es xs m e) (length xs) (length es)
+unfoldable pub askedBy : (f : Family) → Heads → Body (LeafOf f) → List (ElementOf f) → Asked
+askedBy f h (recordOf is) xs = ofNothing
+askedBy f h (setOf g) xs = ofNothing
+askedBy f h (superset es) xs = ofGroups (pairs f es xs) (length es) (length xs)
+askedBy f h (subset es) xs = cond (isPlain (h .sheet)) ofNothing (ofGroups (λ e m. pairs f es xs m e) (length xs) (length es))
 
 unfoldable pub askedOf : (f : Family) → Template (LeafOf f) → List (ElementOf f) → Asked
-askedOf f (template h b) xs = cond (lengthMet (h .length) (length xs)) (askedBy f b xs) ofNothing
+askedOf f (template h b) xs = cond (lengthMet (h .length) (length xs)) (askedBy f h b xs) ofNothing
 
 -- "When a superset doesn't match": the number is 1, and so no other, as 17 for a list with an element outside the type
 unfoldable pub GroupOf : Asked → ℕ → ℕ → Type 0

@@ -8,10 +8,10 @@ use native.Mathlib.Omega.{arith}
 use borrow.Author.Tests.{ltb-true, ltb-false}
 use lib.Dec.{ltb}
 use lib.ListN.{length, getD, take, replicate}
-use Rattle.facts.proofs.Cases.{below, clash, one-of}
+use Rattle.facts.proofs.Cases.{clash, one-of}
 use Rattle.facts.proofs.Spans.{between-past}
 use Rattle.blocks.specs.declared.Block.{Block}
-use Rattle.blocks.specs.Pieces.{Takes, Cuts, Cutting, Filling}
+use Rattle.blocks.specs.Pieces.{Takes, Cuts, Cutting, Containing, Filling}
 use Rattle.blocks.proofs.FirstLists.{best-same, none-best}
 use Rattle.assign.specs.Answer.{Answer}
 use Rattle.rows.specs.Rows.{may}
@@ -60,6 +60,12 @@ module _ (fam : Family) (es : List (Elem (LeafOf fam))) (xs : List (ElementOf fa
   cutting-pairs b h = best-same
       (λ v c. takes-cut (pairOf fam es xs) b n v (takes-agree (agrees b) (omega arith) (cut-takes (may rows) b n v c)))
       (λ v c. takes-cut (may rows) b n v (takes-agree (agrees-turn (agrees b)) (omega arith) (cut-takes (pairOf fam es xs) b n v c)))
+      h
+
+  pub containing-pairs : (k : ℕ) {found : Bool} {w : List ℕ} → Containing (may rows) k n found w → Containing (pairOf fam es xs) k n found w
+  containing-pairs k h = best-same
+      (λ v f. record { size = f .size; member = f .member; right = λ e l. sym (same-pairs r (getD v e 0) e (omega arith)) ∙ f .right e l })
+      (λ v f. record { size = f .size; member = f .member; right = λ e l. same-pairs r (getD v e 0) e (omega arith) ∙ f .right e l })
       h
 
   pub filling-pairs : (k : ℕ) {found : Bool} {w : List ℕ} → Filling (may rows) k n found w → Filling (pairOf fam es xs) k n found w

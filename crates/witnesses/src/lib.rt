@@ -18,11 +18,13 @@ use blocks::Block;
 use blocks::Found;
 use blocks::block_at;
 use fillings::first_filling;
+use format::CONTAINMENT;
 use format::RECORD_OF;
 use format::SPARE;
 use format::SUBSET;
 use member_rows::rows_of;
 use records::first_in_record;
+use sheets::first_containment;
 
 // The first cut of n elements by one block: what it takes of them all.
 fn first_of_block(rows: &[u32; 32], b: Block, n: u8) -> Found
@@ -63,6 +65,9 @@ pub fn first_witness(
     let n = (integers.len() + floats.len()) as u8;
     if kind == SUBSET {
         return first_filling(&rows, members as u8, n);
+    }
+    if kind == CONTAINMENT {
+        return first_containment(&rows, members as u8, n);
     }
     let b = block_at(blocks, 0);
     first_of_block(&rows, b, n)

@@ -14,7 +14,7 @@ use Rattle.heads.proofs.length_clashes.Reads as length-clashes-reads
 returns : tie.Need-returns
 returns c =
     let w = c .before .before in
-    own-none _ (w .args .t .now) (w .args .heads .next) (omega (arith, c .if1 .taken))
+    own-none _ _ (w .args .t .now) (w .args .heads .next) (omega (arith, c .if1 .taken))
 
 shared-slice-read-kind : tie.Need-shared-slice-read-kind
 shared-slice-read-kind c = search needs
@@ -22,12 +22,12 @@ shared-slice-read-kind c = search needs
 returns-2 : tie.Need-returns-2
 returns-2 c =
     let w = c .before .before .before .before in
-    own-low _ (w .args .t .now) (w .args .heads .next) (omega (arith, c .before .before .if1 .left, w .pre)) (c .if2 .taken)
+    own-low _ _ (w .args .t .now) (w .args .heads .next) (omega (arith, c .before .before .if1 .left, w .pre)) (c .if2 .taken)
 
 returns-3 : tie.Need-returns-3
 returns-3 c =
     let w = c .before .before .before .before .before in
-    own-high _ (w .args .t .now) (w .args .heads .next) (omega (arith, c .before .before .before .if1 .left, w .pre)) (c .before .if2 .left) (c .if3 .taken)
+    own-high _ _ (w .args .t .now) (w .args .heads .next) (omega (arith, c .before .before .before .if1 .left, w .pre)) (c .before .if2 .left) (c .if3 .taken)
 
 fewest-items-requires : tie.Need-fewest-items-requires
 fewest-items-requires c κs = search needs
@@ -38,7 +38,7 @@ count-fault-requires c κs = search needs
 returns-4 : tie.Need-returns-4
 returns-4 c =
     let w = c .before .before .before .before .before .before .before .before in
-    own-count _ (w .args .t .now) (w .args .heads .next) (omega (arith, c .before .before .before .before .before .before .if1 .left, w .pre)) (c .before .before .before .before .if2 .left) (c .before .before .before .if3 .left) _ (few-counted (w .args .t .now) (w .args .heads .next) _ _ (c .before .count-fault .ensures) (c .before .before .fewest-items .ensures)) (c .if4 .taken)
+    own-count _ _ (w .args .t .now) (w .args .heads .next) (omega (arith, c .before .before .before .before .before .before .if1 .left, w .pre)) (c .before .before .before .before .if2 .left) (c .before .before .before .if3 .left) _ (few-counted (w .args .t .now) (w .args .heads .next) _ _ (c .before .count-fault .ensures) (c .before .before .fewest-items .ensures)) (c .if4 .taken)
 
 add-length-clashes : tie.Need-add-length-clashes
 add-length-clashes c = search needs
@@ -54,12 +54,12 @@ length-clashes-requires c κs = search needs
 returns-5 : tie.Need-returns-5
 returns-5 c =
     let w = c .before .before .before .before .before .before .before .before .before .before .before in
-    own-clash _ (w .args .t .now) (w .args .heads .next) (omega (arith, c .before .before .before .before .before .before .before .before .before .if1 .left, w .pre)) (c .before .before .before .before .before .before .before .if2 .left) (c .before .before .before .before .before .before .if3 .left) _ (few-counted (w .args .t .now) (w .args .heads .next) _ _ (c .before .before .before .before .count-fault .ensures) (c .before .before .before .before .before .fewest-items .ensures)) (c .before .before .before .if4 .left) _ (sym (c .before .length-clashes .ensures) ∙ c .if5 .taken)
+    own-clash _ _ (w .args .t .now) (w .args .heads .next) (omega (arith, c .before .before .before .before .before .before .before .before .before .if1 .left, w .pre)) (c .before .before .before .before .before .before .before .if2 .left) (c .before .before .before .before .before .before .if3 .left) _ (few-counted (w .args .t .now) (w .args .heads .next) _ _ (c .before .before .before .before .count-fault .ensures) (c .before .before .before .before .before .fewest-items .ensures)) (c .before .before .before .if4 .left) _ (sym (c .before .length-clashes .ensures) ∙ c .if5 .taken)
 
 returns-6 : tie.Need-returns-6
 returns-6 c =
     let w = c .before .before .before .before .before .before .before .before .before .before .before in
-    own-clash _ (w .args .t .now) (w .args .heads .next) (omega (arith, c .before .before .before .before .before .before .before .before .before .if1 .left, w .pre)) (c .before .before .before .before .before .before .before .if2 .left) (c .before .before .before .before .before .before .if3 .left) _ (few-counted (w .args .t .now) (w .args .heads .next) _ _ (c .before .before .before .before .count-fault .ensures) (c .before .before .before .before .before .fewest-items .ensures)) (c .before .before .before .if4 .left) _ (sym (c .before .length-clashes .ensures) ∙ c .if5 .left)
+    own-clash _ _ (w .args .t .now) (w .args .heads .next) (omega (arith, c .before .before .before .before .before .before .before .before .before .if1 .left, w .pre)) (c .before .before .before .before .before .before .before .if2 .left) (c .before .before .before .before .before .before .if3 .left) _ (few-counted (w .args .t .now) (w .args .heads .next) _ _ (c .before .before .before .before .count-fault .ensures) (c .before .before .before .before .before .fewest-items .ensures)) (c .before .before .before .if4 .left) _ (sym (c .before .length-clashes .ensures) ∙ c .if5 .left)
 
 pub body-fault-spec : {M : Type 1} → statement M
 body-fault-spec =

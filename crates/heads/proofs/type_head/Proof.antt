@@ -64,6 +64,7 @@ returns-2 c =
     let high = c .before .int-at2 in
     λ a said. headsRead _ (type-read a t at (s .pre .2) _ (told .type-fault .ensures) (else1 .if1 .left)) refl (o .fits)
     (record {
+      sheet = said .sheet;
       attribute = said .attribute;
       bounds = said .bounds;
       order = (word-intAt t (at + 1), word-intAt t (at + 5), o .order);

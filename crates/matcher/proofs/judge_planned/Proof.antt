@@ -1,6 +1,5 @@
 -- `matcher::judge_planned` meets its contract: each test of the code is the next row of `judgeAnswer`. Assumes nothing.
-use mathlib.Core.Path.{_≡_, refl, sym, ap, _∙_}
-use mathlib.Core.Bool.{Bool, cond}
+use mathlib.Core.Path.{_≡_, refl, sym, _∙_}
 use mathlib.Core.List.{List}
 use mathlib.Core.Logic.{⊎-elim}
 use Prim.Native.Nat.{ℕ, _+_}
@@ -11,13 +10,12 @@ use lib.ListN.{length}
 use Rattle.format.specs.declared.Family.{Family}
 use Rattle.grammar.specs.Family.{ElementOf, listOf, Lent}
 use Rattle.plans.specs.Plans.{PlanOf}
-use Rattle.matching.specs.Answer.{Taken, judgeAnswer}
+use Rattle.matching.specs.Answer.{Taken}
 use Rattle.matching.proofs.Answers.{judge-two, judge-eleven, judge-thirteen}
 use Rattle.matcher.proofs.ByPlan.{Ready, planned-ready, ready-inside}
 use Rattle.matcher.proofs.LentLists.{size-of, list-short, list-large, list-other, met-by, served}
 use Rattle.matcher.proofs.Inside.{Passed, passed-whole, passed-by, stopped-by}
-use Rattle.matcher.proofs.PlannedAnswers.{judge-refused, judge-unmet}
-use Rattle.matcher.proofs.JudgedPairs.{judge-wrong, judge-right}
+use Rattle.matcher.proofs.PlannedAnswers.{judge-refused, judge-unmet, judge-wrong, judge-plain, judge-right}
 use Rattle.matcher.proofs.judge_planned.Statement.{statement}
 use Rattle.matcher.proofs.judge_planned.Tie as tie
 
@@ -91,13 +89,32 @@ left-over-requires c κs =
     let start = zero .before .before .before .before .before .before .before .before .before in
     (served _ _ _ _ _ _ (ready zero) refl (start .pre .lent), zero .before .before .before .if3 .left)
 
+containment-passes-requires : tie.Need-containment-passes-requires
+containment-passes-requires c κs =
+    let zero = c .before .before .before .before .before .before .before .before .before in
+    let start = zero .before .before .before .before .before .before .before .before .before in
+    (served _ _ _ _ _ _ (ready zero) refl (start .pre .lent), zero .before .before .before .if3 .left)
+
+judged-requires : tie.Need-judged-requires
+judged-requires c κs = search needs
+
 returns-6 : tie.Need-returns-6
 returns-6 c fam plan lent =
-    let paired = c .before in
+    let passes = c .before in
+    let plain = passes .before .before .before in
+    let paired = plain .before .before in
     let met = paired .before .before .before in
     let zero = met .before .before in
     let long = zero .before .before .before in
-    judge-wrong fam _ _ (taken (long .before) fam lent) _ plan (passed zero fam plan lent) _ (met-by fam _ _ lent _ _ _ (met .before .length-met .ensures)) (not-false _ (met .if6 .left)) _ (same-size long fam lent) _ (paired .left-over .ensures fam lent) (c .if7 .taken)
+    c .judged .ensures ∙ judge-plain fam _ _ (taken (long .before) fam lent) _ plan (passed zero fam plan lent) _ (met-by fam _ _ lent _ _ _ (met .before .length-met .ensures)) (not-false _ (met .if6 .left)) _ (same-size long fam lent) (plain .if8 .taken) _ (passes .containment-passes .ensures fam lent)
+
+returns-7 : tie.Need-returns-7
+returns-7 c fam plan lent =
+    let paired = c .before .before in
+    let met = paired .before .before .before in
+    let zero = met .before .before in
+    let long = zero .before .before .before in
+    judge-wrong fam _ _ (taken (long .before) fam lent) _ plan (passed zero fam plan lent) _ (met-by fam _ _ lent _ _ _ (met .before .length-met .ensures)) (not-false _ (met .if6 .left)) _ (same-size long fam lent) _ (paired .left-over .ensures fam lent) (c .before .if7 .taken) (c .if8 .left)
 
 body-met-requires : tie.Need-body-met-requires
 body-met-requires c κs =
@@ -105,22 +122,18 @@ body-met-requires c κs =
     let r = ready zero in
     (r .planned .fewBlocks, omega (arith, zero .before .before .before .if3 .left, r .short), ready-inside r)
 
--- what the test of the witness says is the answer
-says : (c : tie.After-body-met) → let start = c .before .before .before .before .before .before .before .before .before .before .before .before .before .before .before .before .before .before in
-    (fam : Family) → PlanOf fam (start .args .template .now) (start .args .t2) → Listed start fam → cond (c .body-met .result) 0 1 ≡ judgeAnswer fam (start .args .template .now) (xs start fam) (start .args .witness .now)
-says c fam plan lent =
-    let right = c .before .before .before in
+judged-requires-2 : tie.Need-judged-requires-2
+judged-requires-2 c κs = search needs
+
+returns-8 : tie.Need-returns-8
+returns-8 c fam plan lent =
+    let asked = c .before in
+    let right = asked .before .before .before in
     let paired = right .before in
     let met = paired .before .before .before in
     let zero = met .before .before in
     let long = zero .before .before .before in
-    judge-right fam _ _ (taken (long .before) fam lent) _ plan (passed zero fam plan lent) _ (met-by fam _ _ lent _ _ _ (met .before .length-met .ensures)) (not-false _ (met .if6 .left)) _ (same-size long fam lent) _ (paired .left-over .ensures fam lent) (right .if7 .left) _ (c .body-met .ensures fam)
-
-returns-7 : tie.Need-returns-7
-returns-7 c fam plan lent = sym (ap (λ (b : Bool). cond b 0 1) (c .if8 .taken)) ∙ says (c .before) fam plan lent
-
-returns-8 : tie.Need-returns-8
-returns-8 c fam plan lent = sym (ap (λ (b : Bool). cond b 0 1) (c .if8 .left)) ∙ says (c .before) fam plan lent
+    c .judged2 .ensures ∙ judge-right fam _ _ (taken (long .before) fam lent) _ plan (passed zero fam plan lent) _ (met-by fam _ _ lent _ _ _ (met .before .length-met .ensures)) (not-false _ (met .if6 .left)) _ (same-size long fam lent) _ (paired .left-over .ensures fam lent) (right .if7 .left) _ (asked .body-met .ensures fam)
 
 pub judge-planned-spec : {M : Type 1} → statement M
 judge-planned-spec =
@@ -135,7 +148,10 @@ judge-planned-spec =
     length-met-requires
     returns-5
     left-over-requires
+    containment-passes-requires
+    judged-requires
     returns-6
-    body-met-requires
     returns-7
+    body-met-requires
+    judged-requires-2
     returns-8)

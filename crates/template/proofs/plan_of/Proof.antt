@@ -3,14 +3,16 @@ use mathlib.Core.Path.{_≡_, refl, sym, ap, _∙_}
 use mathlib.Core.Logic.{⊎-elim}
 use Prim.Native.Nat.{ℕ, _+_}
 use native.Mathlib.Omega.{arith}
+use lib.ListN.{getD}
 use borrow.Author.Tests.{lt-ltb, eq-eqb, ne-eqb}
 use Rattle.grammar.specs.Whole.{templateHere, readTemplate}
 use Rattle.grammar.specs.Blocks.{lowOf, highOf}
 use Rattle.elements.proofs.WholeInputs.{read-refused}
 use Rattle.plans.specs.Plans.{refusedPlan}
 use Rattle.template.specs.Bodies.{blockCount}
-use Rattle.template.proofs.Fronts.{Front, heads-refused, heads-inside, body-refused, front-of, front-sorted}
-use Rattle.template.proofs.Bodies.{contents-small, contents-refused, contents-left-over, contents-planned, read-by}
+use Rattle.template.proofs.Fronts.{Front, heads-refused, body-refused, front-of, front-sorted}
+use Rattle.heads.proofs.HeadRecords.{heads-inside}
+use Rattle.template.proofs.Bodies.{contents-small, contents-refused, contents-left-over, contents-planned, read-by, kind-read}
 use borrow.Author.Needs.{needs}
 use Rattle.template.proofs.plan_of.Statement.{statement}
 use Rattle.template.proofs.plan_of.Tie as tie
@@ -62,7 +64,7 @@ returns-2 c =
 body-fault-requires : tie.Need-body-fault-requires
 body-fault-requires c κs =
     let fam = c .before .before .before .before .args .family in
-    heads-inside fam _ _ (c .before .heads-of .ensures) (c .if2 .left)
+    heads-inside (c .before .heads-of .ensures) (c .if2 .left)
 
 no-plan-requires-3 : tie.Need-no-plan-requires-3
 no-plan-requires-3 c κs = search needs
@@ -128,14 +130,17 @@ returns-5 c =
     let f = front e in
     refusedPlan 10 (contents-left-over (a .family) (a .t .now) _ _ _ _ _ _ _ (f .reads) (read-by (a .family) _ _ _ (front-sorted _ _ _ f) (a .t .now) (e .before .before .before .heads-of .result .next + 2) _ _ (read .contents-end .result) _ _ (read .contents-end .ensures)) (c .before .before .before .before .before .before .before .before .before .before .before .before .before .if1 .left) (c .before .before .if4 .left) (c .before .if5 .taken)) (omega arith) (c .no-plan5 .ensures)
 
+kind-read-requires : tie.Need-kind-read-requires
+kind-read-requires c κs = search needs
+
 returns-6 : tie.Need-returns-6
 returns-6 c =
-    let a = c .before .before .before .before .before .before .before .before .before .before .before .before .before .before .before .args in
-    let read = c .before .before .before in
-    let e = c .before .before .before .before .before .before .before .before .before in
+    let a = c .before .before .before .before .before .before .before .before .before .before .before .before .before .before .before .before .args in
+    let read = c .before .before .before .before in
+    let e = c .before .before .before .before .before .before .before .before .before .before in
     let f = front e in
     let count = ⊎-elim (λ w. w .1 ∙ sym (counted-record _ _ (w .0 .taken))) (λ w. w .1 ∙ sym (counted-one _ _ (w .0 .left))) (c .if6 .came) in
-    contents-planned (a .family) (a .t .now) _ _ _ _ _ _ _ (f .reads) (read-by (a .family) _ _ _ (front-sorted _ _ _ f) (a .t .now) (e .before .before .before .heads-of .result .next + 2) _ _ (read .contents-end .result) _ _ (read .contents-end .ensures)) (c .before .before .before .before .before .before .before .before .before .before .before .before .before .if1 .left) (c .before .before .if4 .left) (c .before .if5 .left) (f .few) _ _ _ _ (ap lowOf (f .says .attribute) ∙ f .says .bounds .lower) (ap highOf (f .says .attribute) ∙ f .says .bounds .upper) (f .says .sort) count
+    contents-planned (a .family) (a .t .now) _ _ _ _ _ _ _ (f .reads) (read-by (a .family) _ _ _ (front-sorted _ _ _ f) (a .t .now) (e .before .before .before .heads-of .result .next + 2) _ _ (read .contents-end .result) _ _ (read .contents-end .ensures)) (c .before .before .before .before .before .before .before .before .before .before .before .before .before .before .if1 .left) (c .before .before .before .if4 .left) (c .before .before .if5 .left) (f .few) _ _ _ _ (ap lowOf (f .says .attribute) ∙ f .says .bounds .lower) (ap highOf (f .says .attribute) ∙ f .says .bounds .upper) (f .says .sort) count _ (λ b q. c .before .kind-read .ensures ∙ kind-read (f .heads) (e .before .before .before .heads-of .result .plain) (getD (a .t .now) (e .before .before .before .heads-of .result .next) 0) (f .says .sheet) b q)
 
 pub plan-of-spec : {M : Type 1} → statement M
 plan-of-spec =
@@ -161,4 +166,5 @@ plan-of-spec =
     returns-4
     no-plan-requires-5
     returns-5
+    kind-read-requires
     returns-6)

@@ -1,4 +1,5 @@
--- `first_witness` meets its contract: a record of by its blocks and bytes, a subset by its members, any other body by its one block. Assumes nothing.
+-- `first_witness` meets its contract: a record of by its blocks and bytes, a subset by its members, each once or under sheet 1 many times, any other body by its
+-- one block. Assumes nothing.
 use native.Mathlib.Omega.{arith}
 use Prim.Native.Nat.{_+_, _≤_}
 use lib.ListN.{length}
@@ -10,8 +11,8 @@ use Rattle.blocks.specs.declared.Block.{Block}
 use Rattle.blocks.specs.Pieces.{Cutting}
 use Rattle.member_rows.specs.Contract.{pairOf}
 use mathlib.Core.Path.{sym, ap, _∙_, subst}
-use Rattle.witnesses.proofs.ByKind.{first-subset, first-blocks}
-use Rattle.witnesses.proofs.OneBlock.{cutting-pairs, filling-pairs, below-one}
+use Rattle.witnesses.proofs.ByKind.{first-subset, first-plain, first-blocks}
+use Rattle.witnesses.proofs.OneBlock.{cutting-pairs, containing-pairs, filling-pairs, below-one}
 use borrow.Author.Needs.{needs}
 use Rattle.witnesses.proofs.first_witness.Statement.{statement}
 use Rattle.witnesses.proofs.first_witness.Tie as tie
@@ -25,7 +26,7 @@ first-in-record-requires : tie.Need-first-in-record-requires
 first-in-record-requires c κs = search needs
 
 returns : tie.Need-returns
-returns c fam lent es s = first-blocks _ _ _ _ _ (λ q. let z = sym (c .before .if1 .taken) ∙ q in omega arith) (c .first-in-record .ensures fam lent es s)
+returns c fam lent es s = first-blocks _ _ _ _ _ (λ q. let z = sym (c .before .if1 .taken) ∙ q in omega arith) (λ q. let z = sym (c .before .if1 .taken) ∙ q in omega arith) (c .first-in-record .ensures fam lent es s)
 
 rows-of-requires : tie.Need-rows-of-requires
 rows-of-requires c κs = search needs
@@ -47,25 +48,36 @@ returns-2 c fam lent es s =
     let rows = c .before .before .before in
     first-subset _ _ _ _ _ (c .before .before .if2 .taken) (filling-pairs fam es _ _ _ (lent-size fam _ _ lent) (rows .rows-of .ensures fam lent es s) _ (c .first-filling .ensures))
 
+cast-first-containment : tie.Need-cast-first-containment
+cast-first-containment c = omega (arith, c .before .before .before .before .before .before .before .pre .0 .placed .few)
+
+first-containment-requires : tie.Need-first-containment-requires
+first-containment-requires c κs = let s = c .before .before .before .before .before .before .before in (s .pre .0 .placed .few, few s)
+
+returns-3 : tie.Need-returns-3
+returns-3 c fam lent es s =
+    let rows = c .before .before .before .before in
+    first-plain _ _ _ _ _ (c .before .before .if3 .taken) (containing-pairs fam es _ _ _ (lent-size fam _ _ lent) (rows .rows-of .ensures fam lent es s) _ (c .first-containment .ensures))
+
 block-at-requires : tie.Need-block-at-requires
 block-at-requires c κs = search needs
 
 first-of-block-requires : tie.Need-first-of-block-requires
 first-of-block-requires c κs =
-    let other = c .before .before in
+    let other = c .before .before .before in
     let start = other .before .before .before .before .before in
     let p = start .pre in
     let low = below-one _ _ _ (p .3 .alone (other .before .before .if1 .left) (other .if2 .left)) (p .2) in
     (rw (c .before .block-at .ensures) (omega (arith, low, p .0 .placed .few)), few start)
 
-returns-3 : tie.Need-returns-3
-returns-3 c fam lent es s =
+returns-4 : tie.Need-returns-4
+returns-4 c fam lent es s =
     let found = c .before .before in
-    let other = found .before in
+    let other = found .before .before in
     let start = other .before .before .before .before .before in
     let a = start .args in
     let alone = start .pre .3 .alone (other .before .before .if1 .left) (other .if2 .left) ∙ ap (λ (b : Block). b ∷ []) (sym (found .block-at .ensures)) in
-    first-blocks _ _ _ _ _ (other .if2 .left)
+    first-blocks _ _ _ _ _ (other .if2 .left) (found .before .if3 .left)
     (subst
     (λ (bs : List Block). Cutting (pairOf fam es (listOf fam (a .integers .now) (a .floats .now))) bs (length (a .integers .now) + length (a .floats .now)) (c .first-of-block .result .found) (c .first-of-block .result .w))
     (sym alone)
@@ -83,6 +95,9 @@ first-witness-spec =
     cast-first-filling
     first-filling-requires
     returns-2
+    cast-first-containment
+    first-containment-requires
+    returns-3
     block-at-requires
     first-of-block-requires
-    returns-3)
+    returns-4)

@@ -1,33 +1,30 @@
--- The judge's answer by the pairs that a witness gives, and by what the body asks besides. Assumes nothing.
+-- Whether a witness obeys, by the pairs that it gives and by what the body asks besides; a subset under sheet 1 by its pairs alone. Assumes nothing.
 use mathlib.Core.Path.{_≡_, refl, sym, ap, _∙_}
 use mathlib.Core.Bool.{Bool, true, false, _&&_, _||_, cond}
 use mathlib.Core.Logic.{_⊎_, inl, inr, ⊎-elim}
 use mathlib.Core.List.{List, [], _∷_}
 use Prim.Native.Nat.{ℕ, zero, suc, _≤_, _<_}
 use native.Mathlib.Omega.{arith}
+use native.Mathlib.Nat.{zero-add}
 use borrow.Author.Tests.{eqb-true, eq-eqb}
-use lib.Dec.{eqb, leb}
-use lib.ListN.{length, getD, take}
-use Rattle.facts.proofs.Cases.{and-left, and-right, both, one-of, or-left, or-right, not-so}
+use lib.Dec.{eqb}
+use lib.ListN.{length, getD}
+use Rattle.facts.proofs.Cases.{clash, and-left, and-right, both, one-of, or-left, or-right, not-so, same-test}
 use Rattle.masks.specs.Masks.{bit}
-use Rattle.blocks.specs.Numbers.{blocksIn}
+use Rattle.blocks.specs.Pieces.{Contains, Passing}
+use Rattle.blocks.proofs.FirstLists.{passing-holds}
 use Rattle.grammar.specs.Element.{Elem}
 use Rattle.format.specs.declared.Family.{Family}
 use Rattle.grammar.specs.Family.{LeafOf, ElementOf, noElement, matchesOf}
-use Rattle.grammar.specs.Template.{template, Heads, Body, membersOf}
+use Rattle.grammar.specs.Template.{Sheet, sheet1, sheet2, isPlain, template, Heads, Body, recordOf, setOf, superset, subset, plainly, membersOf}
 use Rattle.grammar.specs.Members.{memberHits}
-use Rattle.grammar.specs.Blocks.{Standing}
+use Rattle.grammar.specs.Blocks.{bodyKind, kindRead}
 use Rattle.grammar.proofs.Members.{hits-low}
-use Rattle.plans.specs.declared.Plan.{Plan}
-use Rattle.plans.specs.Plans.{PlanOf}
+use Rattle.member_rows.specs.Contract.{pairOf}
 use Rattle.pairs.specs.Pairs.{Right, Left, Paired, right, wrong}
-use Rattle.obeying.specs.Spread.{Says, Spread}
+use Rattle.obeying.specs.Spread.{Spread}
 use Rattle.matching.specs.Obeys.{spare, rightBytes, noneTwice, bodyMet, lengthMet, obeysBy, obeys, Obeys}
-use Rattle.matching.specs.Answer.{judgeAnswer, Taken}
-use Rattle.matching.proofs.Answers.{judged}
-use Rattle.matching.proofs.RulesByBlocks.{twice-test, twice-says}
-use Rattle.matcher.proofs.ByPlan.{Ready, planned-ready, length-by}
-use Rattle.matcher.proofs.Inside.{Passed}
+use Rattle.matching.proofs.RulesByBlocks.{agree-from, twice-test, twice-says, Under, ByBlocks, obeys-says, obeys-test}
 
 -- ---- the bytes, one by one
 
@@ -58,21 +55,22 @@ module _ (fam : Family) (a : Heads) (b : Body (LeafOf fam)) (xs : List (ElementO
   es = membersOf b
 
   -- the rules ask for right pairs
-  pub obeys-right : Obeys fam (template a b) xs w → Right fam es xs w
+  obeys-right : plainly a b ≡ false → Obeys fam (template a b) xs w → Right fam es xs w
   unfolding obeysBy
-  obeys-right o =
-      let rest = noneTwice (length es) w && (bodyMet b w && lengthMet (a .length) (length xs)) in
+  obeys-right other o =
+      let once = plainly a b || noneTwice (length es) w in
+      let rest = once && (bodyMet b w && lengthMet (a .length) (length xs)) in
       record {
         bytes = right-bytes fam es xs w (and-left (rightBytes (matchesOf fam) es xs w) rest o);
-        once = twice-says (length es) w (and-left (noneTwice (length es) w) (bodyMet b w && lengthMet (a .length) (length xs)) (and-right (rightBytes (matchesOf fam) es xs w) rest o));
+        once = twice-says (length es) w (rw other at (and-left once (bodyMet b w && lengthMet (a .length) (length xs)) (and-right (rightBytes (matchesOf fam) es xs w) rest o)));
       }
 
   -- where the pairs are right and the length is met, what the body asks is left
-  pub right-obeys : Right fam es xs w → lengthMet (a .length) (length xs) ≡ true → obeys fam (template a b) xs w ≡ bodyMet b w
+  right-obeys : Right fam es xs w → lengthMet (a .length) (length xs) ≡ true → obeys fam (template a b) xs w ≡ bodyMet b w
   unfolding obeysBy
   right-obeys r met =
-      ap (λ (v : Bool). v && (noneTwice (length es) w && (bodyMet b w && lengthMet (a .length) (length xs)))) (bytes-right fam es xs w size (r .bytes))
-      ∙ ap (λ (v : Bool). v && (bodyMet b w && lengthMet (a .length) (length xs))) (twice-test (length es) w (r .once))
+      ap (λ (v : Bool). v && ((plainly a b || noneTwice (length es) w) && (bodyMet b w && lengthMet (a .length) (length xs)))) (bytes-right fam es xs w size (r .bytes))
+      ∙ ap (λ (v : Bool). v && (bodyMet b w && lengthMet (a .length) (length xs))) (or-right (plainly a b) (noneTwice (length es) w) (twice-test (length es) w (r .once)))
       ∙ ap (λ (v : Bool). bodyMet b w && v) met ∙ and-true (bodyMet b w)
     where
       and-true : (v : Bool) → (v && true) ≡ v
@@ -100,34 +98,49 @@ module _ (fam : Family) (a : Heads) (b : Body (LeafOf fam)) (xs : List (ElementO
   right-pairs r n (wrong m q) = absurd (n q)
   right-pairs r n (right a l) = (a, l)
 
-  pub judged-wrong : (r : ℕ) → length es ≤ 32 → r ≡ 4294967296 → Paired fam es xs w r → obeys fam (template a b) xs w ≡ false
-  judged-wrong r few z p = not-so (obeys fam (template a b) xs w) (λ o. wrong-pairs r few z p (obeys-right o))
+  pub judged-wrong : (r : ℕ) → plainly a b ≡ false → length es ≤ 32 → r ≡ 4294967296 → Paired fam es xs w r → obeys fam (template a b) xs w ≡ false
+  judged-wrong r other few z p = not-so (obeys fam (template a b) xs w) (λ o. wrong-pairs r few z p (obeys-right other o))
 
   pub judged-right : (r : ℕ) (met : Bool) → length es ≤ 32 → lengthMet (a .length) (length xs) ≡ true → (r ≡ 4294967296 → ⊥) → Paired fam es xs w r → (Spread b w r → met ≡ bodyMet b w) → met ≡ obeys fam (template a b) xs w
   judged-right r met few l n p says = let u = right-pairs r n p in says (right-spread r few (u .0) (u .1)) ∙ sym (right-obeys (u .0) l)
 
--- ---- the judge
+-- ---- a subset under sheet 1
 
-module _ (fam : Family) (t : List ℕ) (xs : List (ElementOf fam)) (taken : Taken t xs) (p : Plan) (plan : PlanOf fam t p) (passed : Passed fam t p xs) (met : Bool) (says : met ≡ (leb (p .low) (length xs) && leb (length xs) (p .high))) (so : met ≡ true)
-    (w : List ℕ) (size : length w ≡ length xs) (left : ℕ) (paired : (es : List (Elem (LeafOf fam))) → Standing fam t es (take (p .members) (p .places)) → Paired fam es xs w left) where
-  ready : Ready fam t p (length xs)
-  ready = planned-ready fam t p (length xs) plan (passed .zero) (taken .1)
+-- its kind says so
+pub read-plainly : {L : Type 0} (h : Heads) (b : Body L) → kindRead h b ≡ 0x14 → plainly h b ≡ true
+unfolding kindRead plainly bodyKind
+read-plainly h (recordOf is) q = absurd (omega arith)
+read-plainly h (setOf g) q = absurd (omega arith)
+read-plainly h (superset es) q = absurd (omega arith)
+read-plainly h (subset es) q = so (isPlain (h .sheet)) q
+  where
+    so : (p : Bool) → _≡_ {A = ℕ} (cond p 0x14 0x13) 0x14 → p ≡ true
+    so true z = refl
+    so false z = absurd (omega arith)
 
-  length-so : lengthMet (ready .heads .length) (length xs) ≡ true
-  length-so = sym (length-by fam t p (length xs) (taken .1) met says (ready .heads) (ready .body) (ready .planned)) ∙ so
+pub not-plainly : {L : Type 0} (h : Heads) (b : Body L) → (kindRead h b ≡ 0x14 → ⊥) → plainly h b ≡ false
+unfolding kindRead
+not-plainly h b n = not-so (plainly h b) (λ p. n (ap (λ (v : Bool). cond v 0x14 (bodyKind b)) p))
 
-  few-members : length (membersOf (ready .body)) ≤ 32
-  few-members = let s = ready .planned .size in let f = ready .planned .fewMembers in omega arith
+module _ (may : ℕ → ℕ → Bool) (k n : ℕ) (w : List ℕ) where
+  plain-under : (v : Sheet) → isPlain v ≡ true → Contains may k n w → Under v may k n w
+  plain-under sheet1 p c = c
+  plain-under sheet2 p c = absurd (clash p refl)
 
-  pairs : Paired fam (membersOf (ready .body)) xs w left
-  pairs = paired (membersOf (ready .body)) (ready .planned .stands)
+  under-plain : (v : Sheet) → isPlain v ≡ true → Under v may k n w → Contains may k n w
+  under-plain sheet1 p u = u
+  under-plain sheet2 p u = absurd (clash p refl)
 
-  answer : (r : Bool) → r ≡ obeys fam (template (ready .heads) (ready .body)) xs w → cond r 0 1 ≡ judgeAnswer fam t xs w
-  answer r h = ap (λ (v : Bool). cond v 0 1) h ∙ sym (judged fam t xs w (template (ready .heads) (ready .body)) taken size (ready .accepted) (passed .inside (ready .heads) (ready .body) (ready .accepted)))
-
-  pub judge-wrong : left ≡ 4294967296 → 1 ≡ judgeAnswer fam t xs w
-  judge-wrong z = answer false (sym (judged-wrong fam (ready .heads) (ready .body) xs w size left few-members z pairs))
-
-  pub judge-right : (left ≡ 4294967296 → ⊥) → (r : Bool) → ((b : Body (LeafOf fam)) → Says (p .kind) (blocksIn (take (p .count) (p .blocks))) b → Spread b w left → r ≡ bodyMet b w) → cond r 0 1 ≡ judgeAnswer fam t xs w
-  judge-right n r h =
-      answer r (judged-right fam (ready .heads) (ready .body) xs w size left r few-members length-so n pairs (h (ready .body) (record { kind-is = ready .planned .kind; cut = ready .planned .cut })))
+module _ (fam : Family) (h : Heads) (xs : List (ElementOf fam)) (w : List ℕ) (short : length xs ≤ 32) (met : lengthMet (h .length) (length xs) ≡ true) (r : Bool) where
+  -- what holds of the pairs is what obeys
+  pub plainly-judged : (b : Body (LeafOf fam)) → plainly h b ≡ true → length (membersOf b) ≤ 32 → Passing (Contains (pairOf fam (membersOf b) xs) (length (membersOf b)) (length xs) w) r → r ≡ obeys fam (template h b) xs w
+  unfolding plainly ByBlocks membersOf
+  plainly-judged (recordOf is) p few t = absurd (clash p refl)
+  plainly-judged (setOf g) p few t = absurd (clash p refl)
+  plainly-judged (superset es) p few t = absurd (clash p refl)
+  plainly-judged (subset es) p few t =
+      let related = pairOf fam es xs in
+      let agree = agree-from (matchesOf fam) (noElement fam) es related 0 xs (λ m i l. rw (zero-add i) refl) in
+      same-test r (obeys fam (template h (subset es)) xs w)
+      (λ q. obeys-test (matchesOf fam) h (subset es) related xs agree few short w (plain-under related (length es) (length xs) w (h .sheet) p (t .passed q)) met)
+      (λ o. passing-holds t (under-plain related (length es) (length xs) w (h .sheet) p (obeys-says (matchesOf fam) h (subset es) related xs agree few short w o .0)))
