@@ -126,14 +126,16 @@ fn sheet_head(t: &[u8], family: Family) -> Heads
     if code != DONE {
         return refused_heads(code);
     }
+    let none = no_heads(family);
+    let sort = none.sort;
     Heads {
         code: DONE,
         next: SHEET_SIZE,
         plain: t[1] == PLAIN_SHEET,
-        given: false,
-        min: 0,
-        max: INFINITY,
-        sort: untyped(family),
+        given: none.given,
+        min: none.min,
+        max: none.max,
+        sort,
     }
 }
 

@@ -16,7 +16,6 @@ use Rattle.heads.proofs.no_heads.Reads as no-heads-reads
 use Rattle.heads.proofs.refused_heads.Reads as refused-heads-reads
 use Rattle.heads.proofs.sheet_fault.Reads as sheet-fault-reads
 use Rattle.items.proofs.record.kind_at.Reads as kind-at-reads
-use Rattle.sorts.proofs.untyped.Reads as untyped-reads
 
 kind-at-requires : tie.Need-kind-at-requires
 kind-at-requires c κs = search needs
@@ -44,20 +43,24 @@ returns-2 c =
     let t = told .before .before .args .t .now in
     headsFault _ (sheet-fault noHeads t _ (told .kind-at .ensures) (fault .before .if1 .left) _ (fault .sheet-fault .ensures) (c .before .if2 .taken)) (omega (arith, c .before .if2 .taken)) (c .refused-heads .ensures)
 
-shared-slice-read-t4 : tie.Need-shared-slice-read-t4
-shared-slice-read-t4 c = omega (arith, sheet-inv (c .before .before .before .before .before .before .args .t .now) (sym (c .before .before .sheet-fault .ensures) ∙ c .before .if2 .left))
+no-heads-requires-2 : tie.Need-no-heads-requires-2
+no-heads-requires-2 c κs = search needs
 
-untyped-requires : tie.Need-untyped-requires
-untyped-requires c κs = search needs
+shared-slice-read-t6 : tie.Need-shared-slice-read-t6
+shared-slice-read-t6 c =
+    let zero = c .before .before .before in
+    omega (arith, sheet-inv (zero .before .before .before .before .before .args .t .now) (sym (zero .before .sheet-fault .ensures) ∙ zero .if2 .left))
 
 returns-3 : tie.Need-returns-3
 returns-3 c =
-    let fault = c .before .before .before in
+    let none = c .before .before in
+    let zero = none .before in
+    let fault = zero .before in
     let told = fault .before .before in
     let t = told .before .before .args .t .now in
-    let zero = c .before .before .if2 .left in
-    headsRead _ (sheet-read noHeads t _ (told .kind-at .ensures) (fault .before .if1 .left) _ (fault .sheet-fault .ensures) zero) refl (sheet-inv t (sym (fault .sheet-fault .ensures) ∙ zero))
-    (record { sheet = refl; attribute = refl; bounds = record { lower = refl; upper = refl }; order = (omega arith, omega arith, refl); sort = c .untyped .ensures })
+    let said = none .no-heads2 .ensures .said in
+    headsRead _ (sheet-read noHeads t _ (told .kind-at .ensures) (fault .before .if1 .left) _ (fault .sheet-fault .ensures) (zero .if2 .left)) refl (sheet-inv t (sym (fault .sheet-fault .ensures) ∙ zero .if2 .left))
+    (record { sheet = refl; attribute = said .attribute; bounds = said .bounds; order = said .order; sort = said .sort })
 
 pub sheet-head-spec : {M : Type 1} → statement M
 sheet-head-spec =
@@ -69,6 +72,6 @@ sheet-head-spec =
     sheet-fault-requires
     refused-heads-requires
     returns-2
-    shared-slice-read-t4
-    untyped-requires
+    no-heads-requires-2
+    shared-slice-read-t6
     returns-3)
