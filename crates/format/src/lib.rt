@@ -42,9 +42,6 @@ pub const TYPE: u8 = 0x31;
 
 pub const SHEET: u8 = 0x32;
 
-// No record's kind: in a plan it stands for a subset that sheet 1 reads.
-pub const CONTAINMENT: u8 = 0x14;
-
 // ---- kinds of the program's input
 pub const VALUES: u8 = 0x40;
 
@@ -138,7 +135,8 @@ pub const FORM_MOST: usize = 578;
 
 pub const LAST_MEMBER: usize = 31;
 
-// ---- bytes with a meaning of their own: no bound above, an element that no member has, and the sheets
+// ---- bytes with a meaning of their own: no bound above, an element that no member has, the sheets, and the kind that a plan has for a subset that
+// sheet 1 reads, which is no record's
 pub const INFINITY: u8 = 255;
 
 pub const SPARE: u8 = 255;
@@ -146,6 +144,8 @@ pub const SPARE: u8 = 255;
 pub const PLAIN_SHEET: u8 = 1;
 
 pub const LAST_SHEET: u8 = 2;
+
+pub const CONTAINMENT: u8 = 0x14;
 
 // ---- what a scan answers, in one number: a place and, ONE_MORE for each, what was counted up to it; or above FAULT a refusal's number
 pub const ONE_MORE: usize = 0x1_0000;
