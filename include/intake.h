@@ -36,7 +36,7 @@ enum {
     INTAKE_BAD_BOUNDS = 6,      /* lower above upper, or min or max outside its range, or min above max */
     INTAKE_TOO_DEEP = 7,        /* element template at depth 9 */
     INTAKE_TOO_MANY = 8,        /* a 33rd member, a 65th leaf, of the result of a meeting too, or a second any-elements in one set of or permutation */
-    INTAKE_LENGTH_CLASH = 9,    /* superset with length min below n, or subset with length max above n */
+    INTAKE_LENGTH_CLASH = 9,    /* superset with length min below n, or, but for sheet 1, subset with length max above n */
     INTAKE_LEFT_OVER = 10,      /* bytes left after the template */
     INTAKE_LIST_TOO_LONG = 11,  /* list over INTAKE_LIST_MOST elements */
     INTAKE_ROOM_TOO_SHORT = 12, /* room shorter than the list, or than the normal form */
@@ -44,7 +44,8 @@ enum {
     INTAKE_NOT_A_NUMBER = 14,   /* NaN in a template of floats */
     INTAKE_NO_NORMAL_FORM = 15, /* of the meeting, an input that is no normal form under the type */
     INTAKE_LEAF_OUTSIDE = 16,   /* value or range of the template that reaches outside its type */
-    INTAKE_ELEMENT_OUTSIDE = 17 /* element of the list outside the type of the template */
+    INTAKE_ELEMENT_OUTSIDE = 17, /* element of the list outside the type of the template */
+    INTAKE_BAD_SHEET = 20       /* sheet of the template other than 1 and 2 */
 };
 
 /* The limits, in bytes, elements and bytes. A room of INTAKE_LIST_MOST bytes is enough for every witness, one of INTAKE_FORM_MOST for every form. */
@@ -54,7 +55,8 @@ enum {
 
 /*
  * Does the list match the template? A template may have a type, the integers from a lower to an upper bound: any value and complement are over the
- * type, and a list with an element outside it is refused. Without one the type is all 32-bit integers.
+ * type, and a list with an element outside it is refused. Without one the type is all 32-bit integers. It may also have a sheet: under sheet 1 a
+ * member of a subset may be given many elements.
  * Reads template_length bytes at template_bytes and list_length integers at list.
  * Writes, with INTAKE_DONE only, the first list_length bytes of the room: the first witness in byte order, for each element the member that it is
  * given to. No other byte of the room changes, and with any other number none does.
@@ -80,7 +82,7 @@ uint8_t intake_judge(const uint8_t *template_bytes, size_t template_length,
  * Writes *length, always: with INTAKE_DONE how many bytes the form has, else 0. length must not be NULL.
  * Writes, with INTAKE_DONE only, the first *length bytes of the room: the form. No other byte of the room changes, and with any other number none does.
  * Never gives INTAKE_NO_MATCH, INTAKE_LENGTH_CLASH, INTAKE_LIST_TOO_LONG, INTAKE_OTHER_LENGTH, INTAKE_NOT_A_NUMBER, INTAKE_NO_NORMAL_FORM,
- * INTAKE_LEAF_OUTSIDE or INTAKE_ELEMENT_OUTSIDE.
+ * INTAKE_LEAF_OUTSIDE, INTAKE_ELEMENT_OUTSIDE or INTAKE_BAD_SHEET.
  */
 uint8_t intake_normalise(const uint8_t *template_bytes, size_t template_length,
                          uint8_t *room, size_t room_length, size_t *length);
@@ -91,8 +93,8 @@ uint8_t intake_normalise(const uint8_t *template_bytes, size_t template_length,
  * Reads template_length bytes at template_bytes.
  * Writes what intake_normalise writes. length must not be NULL.
  * Gives INTAKE_BAD_BOUNDS also where lower is above upper, and INTAKE_LEAF_OUTSIDE where a value or a range reaches outside the type.
- * Never gives INTAKE_NO_MATCH, INTAKE_LENGTH_CLASH, INTAKE_LIST_TOO_LONG, INTAKE_OTHER_LENGTH, INTAKE_NOT_A_NUMBER, INTAKE_NO_NORMAL_FORM or
- * INTAKE_ELEMENT_OUTSIDE.
+ * Never gives INTAKE_NO_MATCH, INTAKE_LENGTH_CLASH, INTAKE_LIST_TOO_LONG, INTAKE_OTHER_LENGTH, INTAKE_NOT_A_NUMBER, INTAKE_NO_NORMAL_FORM,
+ * INTAKE_ELEMENT_OUTSIDE or INTAKE_BAD_SHEET.
  */
 uint8_t intake_normalise_typed(const uint8_t *template_bytes, size_t template_length,
                                int32_t lower, int32_t upper,
@@ -105,7 +107,8 @@ uint8_t intake_normalise_typed(const uint8_t *template_bytes, size_t template_le
  * Writes what intake_normalise writes: the form is that of the meeting. length must not be NULL.
  * Gives what intake_normalise_typed gives for the first input, then for the second, where that is neither INTAKE_DONE nor INTAKE_ROOM_TOO_SHORT; then
  * INTAKE_NO_NORMAL_FORM where either is no normal form, INTAKE_TOO_MANY where the meeting has over 64 leaves, and INTAKE_ROOM_TOO_SHORT.
- * Never gives INTAKE_NO_MATCH, INTAKE_LENGTH_CLASH, INTAKE_LIST_TOO_LONG, INTAKE_OTHER_LENGTH, INTAKE_NOT_A_NUMBER or INTAKE_ELEMENT_OUTSIDE.
+ * Never gives INTAKE_NO_MATCH, INTAKE_LENGTH_CLASH, INTAKE_LIST_TOO_LONG, INTAKE_OTHER_LENGTH, INTAKE_NOT_A_NUMBER, INTAKE_ELEMENT_OUTSIDE or
+ * INTAKE_BAD_SHEET.
  */
 uint8_t intake_meeting(const uint8_t *first_form, size_t first_length,
                        const uint8_t *second_form, size_t second_length,
@@ -115,8 +118,8 @@ uint8_t intake_meeting(const uint8_t *first_form, size_t first_length,
 /*
  * Why does the list not match? The number is the one that intake_match gives with a room that is long enough.
  * Reads template_length bytes at template_bytes and list_length integers at list.
- * Writes *group, always: with INTAKE_NO_MATCH, where the template is a superset or a subset whose length attribute is met, the group that is the
- * reason, of a superset bit m for member m, of a subset bit e for element e; in every other case 0. group must not be NULL.
+ * Writes *group, always: with INTAKE_NO_MATCH, where the template is a superset, or a subset but under sheet 1, whose length attribute is met, the group that is
+ * the reason, of a superset bit m for member m, of a subset bit e for element e; in every other case 0. group must not be NULL.
  * Never gives INTAKE_ROOM_TOO_SHORT, INTAKE_OTHER_LENGTH, INTAKE_NOT_A_NUMBER or INTAKE_NO_NORMAL_FORM.
  */
 uint8_t intake_why_not(const uint8_t *template_bytes, size_t template_length,

@@ -68,11 +68,11 @@ pub enum Verdict {
 pub enum Why {
     /// It matches.
     Matched,
-    /// It does not, and no group is the reason: the rule is a record of or a set of, or the length attribute is not met.
+    /// It does not, and no group is the reason: the rule is a record of, a set of or a subset under sheet 1, or the length attribute is not met.
     NoMatch,
     /// The rule is a superset, and these members together match fewer elements than they are.
     Members(Group),
-    /// The rule is a subset, and these elements together are matched by fewer members than they are.
+    /// The rule is a subset, not under sheet 1, and these elements together are matched by fewer members than they are.
     Elements(Group),
     /// The bytes are no rule, or the list is not of the rule's type.
     Refused(Refusal),
@@ -233,14 +233,19 @@ fn reason(rule: &[u8], number: u8, mask: u32) -> Why {
     }
 }
 
-/// Whether the body of an accepted rule is a subset. It stands at the front, or after a length attribute, a type, or both.
+/// Whether the body of an accepted rule is a subset. It stands at the front, or after a sheet, a length attribute and a type, of which each may be missing.
 fn is_subset(rule: &[u8]) -> bool {
+    const SHEET: u8 = 0x32;
+    const SHEET_SIZE: usize = 2;
     const LENGTH: u8 = 0x30;
     const BOUNDS_SIZE: usize = 3;
     const TYPE: u8 = 0x31;
     const TYPE_SIZE: usize = 9;
     const SUBSET: u8 = 0x13;
     let mut body = 0;
+    if rule.get(body) == Some(&SHEET) {
+        body += SHEET_SIZE;
+    }
     if rule.get(body) == Some(&LENGTH) {
         body += BOUNDS_SIZE;
     }

@@ -157,6 +157,8 @@ pub enum Refusal {
     LeafOutside = 16,
     /// An element of the list is outside the type of the rule.
     ElementOutside = 17,
+    /// The sheet of the rule is neither 1 nor 2.
+    BadSheet = 20,
 }
 
 impl Refusal {
@@ -181,6 +183,7 @@ impl Refusal {
             15 => Refusal::NoNormalForm,
             16 => Refusal::LeafOutside,
             17 => Refusal::ElementOutside,
+            20 => Refusal::BadSheet,
             _ => {
                 debug_assert_eq!(number, 10, "the library gives no such number");
                 Refusal::LeftOver
@@ -205,6 +208,7 @@ impl fmt::Display for Refusal {
             Refusal::NoNormalForm => "an input of the meeting is no normal form",
             Refusal::LeafOutside => "a value or a range of the template reaches outside its type",
             Refusal::ElementOutside => "an element of the list is outside the type of the template",
+            Refusal::BadSheet => "the sheet of the template is neither 1 nor 2",
         })
     }
 }

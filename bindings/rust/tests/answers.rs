@@ -115,6 +115,11 @@ fn each_refusal_has_its_number() {
             Refusal::ElementOutside,
             17,
         ),
+        (
+            [vec![0x32, 3], of(0x10, &[])].concat(),
+            Refusal::BadSheet,
+            20,
+        ),
     ];
     for (rule, refusal, number) in rows {
         assert_eq!(match_list(&rule, list(&[1])), Answer::Refused(refusal));
@@ -259,6 +264,8 @@ fn a_group_is_found_behind_every_head() {
         vec![0x30, 0, 2],
         typed(1, 3),
         [vec![0x30, 0, 2], typed(1, 3)].concat(),
+        vec![0x32, 2],
+        [vec![0x32, 2, 0x30, 0, 2], typed(1, 3)].concat(),
     ] {
         let rule = [heads.clone(), few.clone()].concat();
         match why_not(&rule, list(&[2, 3])) {
@@ -266,6 +273,20 @@ fn a_group_is_found_behind_every_head() {
             other => panic!("{heads:?}: {other:?}"),
         }
     }
+}
+
+#[test]
+fn a_subset_is_read_plainly_under_sheet_1() {
+    let few = of(0x13, &[single(1), single(2)]);
+    let old = [vec![0x32, 1], few.clone()].concat();
+    let new = [vec![0x32, 2], few].concat();
+    assert_eq!(witness(&old, &[2, 1, 2]), [1, 0, 1]);
+    assert_eq!(match_list(&new, list(&[2, 1, 2])), Answer::NoMatch);
+    assert_eq!(judged(&old, &[2, 2], &[1, 1]), Verdict::Obeys);
+    assert_eq!(judged(&new, &[2, 2], &[1, 1]), Verdict::DoesNotObey);
+    assert_eq!(judged(&old, &[2], &[255]), Verdict::DoesNotObey);
+    assert_eq!(why_not(&old, list(&[3])), Why::NoMatch);
+    assert!(matches!(why_not(&new, list(&[3])), Why::Elements(_)));
 }
 
 #[test]

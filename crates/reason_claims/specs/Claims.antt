@@ -5,7 +5,7 @@
 -- Explains  <-> it is short exactly where some group is
 -- Greatest  <-> in an assignment of as many members as can be, its shortfall is the number of members that wait
 -- Hall      <-> a group is short "exactly when" the members cannot choose an element each, no element twice
--- GivenWhere    <-> a group is given exactly where a superset or a subset whose length is met does not match
+-- GivenWhere    <-> a group is given exactly where a superset, or a subset under sheet 2, whose length is met does not match
 -- OfGiven P     <-> P holds of every group that is given, and of what is asked: the relation and the two counts
 -- GivenShort    <-> "the number of elements that at least one of a group of members matches is below the group's size"
 -- NoneShorter   <-> no group's shortfall is greater
