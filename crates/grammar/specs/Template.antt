@@ -45,7 +45,7 @@ pub data Length : Type 0 where
   anyLength : Length
   between : ℕ → ℕ → Length
 
--- "Rules written on our sheet 1 read subset plainly. Sheet 2 is document 01's reading."
+-- sheet 1 reads "subset plainly", sheet 2 is "document 01's reading"
 pub data Sheet : Type 0 where
   sheet1 : Sheet
   sheet2 : Sheet

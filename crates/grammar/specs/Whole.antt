@@ -134,7 +134,7 @@ module _ {L : Type 0} (leafHead : List ℕ → Head L) where
 abbrev pub sheetOf : ℕ → Sheet
 sheetOf v = cond (eqb v 1) sheet1 sheet2
 
--- "Kind 32, body 1, value 1 or 2, may stand first of all; without it sheet 2 holds"
+-- "may stand first of all; without it sheet 2 holds"
 unfoldable pub sheetHere : Heads → List ℕ → Read Heads
 sheetHere h s =
     cond (eqb (kindOf s) 0x32)
