@@ -16,7 +16,7 @@ use Rattle.integers.specs.Integer.{signed, intAt}
 use Rattle.floats.specs.Bytes.{floatAt}
 use Rattle.floats.specs.Leaves.{oneFault, boundsFault as rangeFault}
 use Rattle.grammar.specs.Element.{Elem, leaf, oneOf, noneOf, none, more}
-use Rattle.grammar.specs.Template.{membersOfGroup, membersOfItem}
+use Rattle.grammar.specs.Template.{Body, superset, subset, anyLength, sheet1, plainly, membersOfGroup, membersOfItem}
 use Rattle.grammar.specs.Record.{countFault, boundsFault, sheetFault, typeFault, groupHead, head}
 use Rattle.grammar.specs.Leaf.{Leaf, singleHead, rangeHead, leafHead, single, range, reaches, ofType, typedHead}
 use Rattle.grammar.specs.FloatLeaf.{oneHead, floatRangeHead, floatHead}
@@ -228,6 +228,18 @@ hours =
 hours-right : right (λ s. verdict (readElement (typedHead (pos 0) (pos 23)) s)) hours ≡ true
 unfolding right bytesOf day hours signed intAt countFault groupHead head singleHead rangeHead leafHead reaches ofType verdict ended uncounted putFirst thenMore many closed tooDeep opened elem readElement
 hours-right = refl
+
+-- sheet 1 changes subset only
+under-sheet-1 : Body Leaf → Bool
+under-sheet-1 b = plainly (record { sheet = sheet1; length = anyLength; lower = pos 0; upper = pos 23 }) b
+
+subset-plainly : under-sheet-1 (subset []) ≡ true
+unfolding under-sheet-1 plainly
+subset-plainly = refl
+
+superset-not-plainly : under-sheet-1 (superset []) ≡ false
+unfolding under-sheet-1 plainly
+superset-not-plainly = refl
 
 -- ---- floats
 floatOf : ℕ → ℕ → List ℕ → List ℕ
