@@ -1,7 +1,7 @@
 -- The first list of a kind, as `Best` says it, and tests that say whether something holds. Assumes nothing.
--- best-complete, best-found: where there is a list, one is found, and none comes before it. best-unique: one answer, every byte included. best-same: of what is equivalent. none-best: there is none.
+-- best-complete, best-found: where there is a list, one is found, and none comes before it. best-unique, found-unique: one answer, every byte included. best-same: of what is equivalent. none-best: there is none.
 -- passing-true, passing-false: a test that is known. passing-same: of what is equivalent. passing-holds, passing-unique: what holds passes, and there is one answer.
-use mathlib.Core.Path.{_≡_, refl, sym, ap, _∙_}
+use mathlib.Core.Path.{_≡_, refl, sym, ap, ap₂, _∙_}
 use mathlib.Core.Logic.{_⊎_, ⊎-elim}
 use mathlib.Core.Bool.{Bool, true, false}
 use mathlib.Core.List.{List}
@@ -11,6 +11,7 @@ use lib.ListN.{length, getD, take, replicate, length-replicate, getD-replicate}
 use lib.Seq.{getD-take, ext-getD}
 use Rattle.byte_order.specs.ByteOrder.{earlier}
 use Rattle.blocks.specs.Pieces.{Best, Passing}
+use Rattle.blocks.specs.declared.Found.{Found}
 use Rattle.facts.proofs.Cases.{below, holds?, clash, not-so}
 use Rattle.byte_order.proofs.ByteOrder.{first-unique, first-same}
 
@@ -56,6 +57,10 @@ best-unique {P} {n} {found} {found'} {w} {w'} b c = ⊎-elim
     let g : found' ≡ false = not-so found' (λ t. clash (best-complete (take n w') b (c .best t .holds)) f) in
     (f ∙ sym g, b .blank f ∙ sym (c .blank g)))
     (holds? found)
+
+-- so a function that gives the first list has one result
+pub found-unique : {P : List ℕ → Type 0} {n : ℕ} (r r' : Found) → Best P n (r .found) (r .w) → Best P n (r' .found) (r' .w) → r ≡ r'
+found-unique r r' b c = let u = best-unique b c in ap₂ (λ (found : Bool) (w : List ℕ). record { found = found; w = w }) (u .0) (u .1)
 
 -- what holds passes
 pub passing-holds : {P : Type 0} {r : Bool} → Passing P r → P → r ≡ true

@@ -22,7 +22,7 @@ use Rattle.grammar.specs.Family.{LeafOf, ElementOf, ElementRowOf, RowOf}
 use Rattle.grammar.specs.Reading.{readElement}
 use Rattle.grammar.specs.Template.{Template}
 use Rattle.grammar.specs.Whole.{readTemplate}
-use Rattle.grammar.proofs.RefusalNumbers.{Cases, isRefused, isRead, read-cases, element-cases, template-row, element-row, element-not-nine}
+use Rattle.grammar.proofs.RefusalNumbers.{Cases, isRefused, isRead, read-cases, element-cases, template-row, element-row as alone-row, element-not-nine}
 use Rattle.matching.specs.Obeys.{obeys}
 use Rattle.matching.specs.Search.{Maybe, nothing, just, firstWitness}
 use Rattle.matching.specs.Answer.{given, orRefused, written, elementOutside, matchRead, matchAnswer, judgeRead, judgeAnswer, Taken}
@@ -47,35 +47,29 @@ pub data MatchOutcome (fam : Family) (t : List ℕ) (xs : List (ElementOf fam)) 
       → MatchOutcome fam t xs room r after
 
 -- of the rows about the bytes of a template none is before 2, and none is 11, 12, 13 or 17
-element-row-least : (fam : Family) (n : ℕ) → ElementRowOf fam n → 2 ≤ n
-element-row-least Family.Integers n (inl row) = row .0
-element-row-least Family.Integers n (inr e) = omega arith
-element-row-least Family.Floats n (inl row) = row .0
-element-row-least Family.Floats n (inr e) = omega arith
+record Row (n : ℕ) : Type 0 where
+  least : 2 ≤ n
+  apart : 11 ≤ n → n ≤ 13 → ⊥
+  own : n ≡ 17 → ⊥
+
+element-row : (fam : Family) (n : ℕ) → ElementRowOf fam n → Row n
+element-row Family.Integers n (inl row) = let most = row .1 in record { least = row .0; apart = λ p q. omega arith; own = λ z. omega arith }
+element-row Family.Integers n (inr e) = record { least = omega arith; apart = λ p q. omega arith; own = λ z. omega arith }
+element-row Family.Floats n (inl row) = let most = row .1 in record { least = row .0; apart = λ p q. omega arith; own = λ z. omega arith }
+element-row Family.Floats n (inr e) = record { least = omega arith; apart = λ p q. omega arith; own = λ z. omega arith }
+
+row-of : (fam : Family) (n : ℕ) → RowOf fam n → Row n
+row-of fam n (inl row) = element-row fam n row
+row-of fam n (inr e) = record { least = omega arith; apart = λ p q. omega arith; own = λ z. omega arith }
 
 pub row-least : (fam : Family) (n : ℕ) → RowOf fam n → 2 ≤ n
-row-least fam n (inl row) = element-row-least fam n row
-row-least fam n (inr e) = omega arith
-
-element-row-apart : (fam : Family) (n : ℕ) → ElementRowOf fam n → 11 ≤ n → n ≤ 13 → ⊥
-element-row-apart Family.Integers n (inl row) p q = let most = row .1 in omega arith
-element-row-apart Family.Integers n (inr e) p q = omega arith
-element-row-apart Family.Floats n (inl row) p q = let most = row .1 in omega arith
-element-row-apart Family.Floats n (inr e) p q = omega arith
+row-least fam n row = row-of fam n row .least
 
 pub row-apart : (fam : Family) (n : ℕ) → RowOf fam n → 11 ≤ n → n ≤ 13 → ⊥
-row-apart fam n (inl row) p q = element-row-apart fam n row p q
-row-apart fam n (inr e) p q = omega arith
-
-element-row-own : (fam : Family) (n : ℕ) → ElementRowOf fam n → n ≡ 17 → ⊥
-element-row-own Family.Integers n (inl row) z = let most = row .1 in omega arith
-element-row-own Family.Integers n (inr e) z = omega arith
-element-row-own Family.Floats n (inl row) z = let most = row .1 in omega arith
-element-row-own Family.Floats n (inr e) z = omega arith
+row-apart fam n row = row-of fam n row .apart
 
 pub row-own : (fam : Family) (n : ℕ) → RowOf fam n → n ≡ 17 → ⊥
-row-own fam n (inl row) z = element-row-own fam n row z
-row-own fam n (inr e) z = omega arith
+row-own fam n row = row-of fam n row .own
 
 -- where the template is short enough, its own refusal is not 2
 own-row : (fam : Family) (t : List ℕ) (n : ℕ) → length t ≤ 4096 → Refused fam t n → 2 < n
@@ -160,7 +154,7 @@ normal-outcome lo hi t room n l after h =
     scanned : length t ≤ 4096 → lo ≤ℤ hi → answer n l after ≡ answerTo lo hi (readElement (typedHead lo hi) t) room → Cases (readElement (typedHead lo hi) t) → NormalOutcome lo hi t room n l after
     scanned a b d (isRefused r q p) =
         let e : answer n l after ≡ answer r 0 room = d ∙ ap (λ o. answerTo lo hi o room) q in
-        declined r (byScan a b q) (element-row lo hi t r q .row) (element-not-nine lo hi t r q) (cc) (cc) (cc)
+        declined r (byScan a b q) (alone-row lo hi t r q .row) (element-not-nine lo hi t r q) (cc) (cc) (cc)
     scanned a b d (isRead e q) =
         by-test (ltb (length room) (length (normalForm lo hi e)))
         (λ f. let g : answer n l after ≡ answer 12 0 room = d ∙ ap (λ o. answerTo lo hi o room) q ∙ rw f in roomShort b e q (ltb-true (length room) (length (normalForm lo hi e)) f) (cc) (cc) (cc))

@@ -216,14 +216,23 @@ type-inv t at e = go (ltb (length (drop at t)) 9) (ltZ (intAt (drop at t) 5) (in
 
 -- ---- all of them
 
+-- heads without fault
+record Faultless (fam : Family) (t : List ℕ) (o : Read Heads) (g : HeadsStruct) : Type 0 where
+  read : Heads
+  reads : o ≡ got read (drop (g .next) t)
+  inside : g .next ≤ length t
+  said : Said fam read g
+
 module _ {fam : Family} {t : List ℕ} where
+  faultless : {o : Read Heads} {g : HeadsStruct} → HeadsAt fam t o g → g .code ≡ 0 → Faultless fam t o g
+  faultless {o} {g} (headsFault code q l e) z = let c : g .code ≡ code = ap (λ (x : HeadsStruct). x .code) e in absurd (omega arith)
+  faultless (headsRead a q z′ i s) z = record { read = a; reads = q; inside = i; said = s }
+
   pub heads-inside : {o : Read Heads} {g : HeadsStruct} → HeadsAt fam t o g → g .code ≡ 0 → g .next ≤ length t
-  heads-inside {o} {g} (headsFault code q l e) z = let c : g .code ≡ code = ap (λ (x : HeadsStruct). x .code) e in absurd (omega arith)
-  heads-inside (headsRead a q z′ i s) z = i
+  heads-inside at z = faultless at z .inside
 
   pub begun : {o : Read Heads} {g : HeadsStruct} → HeadsAt fam t o g → g .code ≡ 0 → length t < 65536 → Begun t g
-  begun {o} {g} (headsFault code q l e) z short = let c : g .code ≡ code = ap (λ (x : HeadsStruct). x .code) e in absurd (omega arith)
-  begun (headsRead a q z′ i s) z short = record { family = fam; read = a; said = s; done = z; inside = i; short = short }
+  begun at z short = let r = faultless at z in record { family = fam; read = r .read; said = r .said; done = z; inside = r .inside; short = short }
 
   module _ {o : Read Heads} {g : HeadsStruct} (next : Heads → List ℕ → Read Heads) where
     -- after some heads: their fault, or what the next ones are
@@ -234,8 +243,7 @@ module _ {fam : Family} {t : List ℕ} where
 
     pub heads-go : {h : HeadsStruct} → HeadsAt fam t o g → g .code ≡ 0 → ((a : Heads) → Said fam a g → HeadsAt fam t (next a (drop (g .next) t)) h) → HeadsAt fam t (andThen o next) h
     unfolding andThen
-    heads-go {h} (headsFault code q l e) z n = let c : g .code ≡ code = ap (λ (x : HeadsStruct). x .code) e in absurd (omega arith)
-    heads-go {h} (headsRead a q z′ i s) z n = heads-as (ap (λ (u : Read Heads). andThen u next) q) (n a s)
+    heads-go {h} at z n = let r = faultless at z in heads-as (ap (λ (u : Read Heads). andThen u next) (r .reads)) (n (r .read) (r .said))
       where
         heads-as : {o u : Read Heads} → o ≡ u → HeadsAt fam t u h → HeadsAt fam t o h
         heads-as e x = rw e x
