@@ -1,4 +1,6 @@
 // The answer of the normaliser: a number, and the form in a lent room.
+#![tactic(auto)]
+
 ghost use Rattle.std.specs.Prelude.{◌≡◌, ◌<◌, length};
 ghost use Rattle.ranges.specs.Shown.{view, Few};
 ghost use Rattle.ranges.specs.Spans.{Ascending};

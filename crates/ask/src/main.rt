@@ -15,6 +15,8 @@
 // pattern of a NaN is the same element. A bound is an integer. ROOM is the whole room afterwards in hexadecimal, `-` where r is 0. A
 // request over its bounds (t, p and q 5,000, n 64, r and w 1,024), another first byte or family, and a request that
 // ends early get the line `bad`, and the run ends.
+#![tactic(auto)]
+
 use answers::Normal;
 use ask_parts::{
     Answer, FLOATS, JUDGE, MATCH, MEETING, NORMALISE, Request, print_answer, read_request,

@@ -1,5 +1,7 @@
 // The requests of the test program `ask`, read from standard input, and the lines of their answers, written to standard output. The
 // program's header says the format of both.
+#![tactic(auto)]
+
 ghost use Rattle.std.specs.Prelude.{◌≤◌};
 
 use floats::float_at;

@@ -1,5 +1,7 @@
 // The first assignment of a piece by a block, in byte order. Members and elements are numbers below 32, and bit m of `rows[e]` says
 // that member m may take element e. Chains start at members, so the search goes by columns, the rows turned.
+#![tactic(auto)]
+
 ghost use Rattle.std.specs.Prelude.{◌≡◌, false, ◌+◌, ◌≤◌};
 ghost use Rattle.assign.specs.Splice.{Spliced};
 ghost use Rattle.masks.specs.Masks.{bit};

@@ -1,5 +1,7 @@
 // The first assignments of hand-made rows, a line each: 1 or 0 for found, and the byte of each of the 32 elements
 // (0 to 9, then a to v, is a member; - is 255). What it writes is held to the file `stdout`.
+#![tactic(auto)]
+
 ghost use Rattle.std.specs.Prelude.{◌+◌, ◌≤◌};
 
 use blocks::Found;

@@ -1,5 +1,7 @@
 // Which elements of a list match the element template that stands here: those asked about, in one walk over its bytes. A list is lent as integers
 // and floats, of which one is empty: the kind of a leaf says of which family it is.
+#![tactic(auto)]
+
 ghost use Rattle.std.specs.Prelude.{◌≡◌, Bool, true, false, not, ℕ, ◌<◌, get_or};
 ghost use Rattle.std.specs.Float.{nan};
 ghost use Rattle.format.specs.declared.Family.{Family};

@@ -1,5 +1,7 @@
 // Element templates: which bytes are one, and by which number any others are refused. A scan answers by one number: the place after what it
 // read, or above FAULT the number of the refusal.
+#![tactic(auto)]
+
 ghost use Rattle.std.specs.Prelude.{◌≡◌, Bool, true, ◌+◌, ◌<◌, ◌≤◌, length, get_or, drop};
 ghost use Rattle.format.specs.declared.Family.{Family};
 ghost use Rattle.grammar.specs.Leaf.{leaf_head, typed_head};

@@ -1,5 +1,7 @@
 // The entry points under plain names, for C and Rust to link. A slice arrives as a pointer and a length. What an entry point gives beside its
 // number goes to the place that the caller lends for it. No parameter of these functions changes later: requests add functions.
+#![tactic(auto)]
+
 ghost use Rattle.std.specs.Prelude.{◌≡◌};
 ghost use Rattle.format.specs.declared.Family.{Family};
 ghost use Rattle.matching.specs.Answer.{given, match_answer, judge_answer};

@@ -1,4 +1,6 @@
 // The first list in byte order in which every element has a member, and no member stands twice.
+#![tactic(auto)]
+
 ghost use Rattle.std.specs.Prelude.{◌≤◌};
 ghost use Rattle.rows.specs.Rows.{may};
 ghost use Rattle.blocks.specs.Pieces.{Filling};

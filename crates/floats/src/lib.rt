@@ -1,4 +1,6 @@
 // Eight bytes and a 64-bit float, low byte first; the leaves of the float family, and when one matches.
+#![tactic(auto)]
+
 ghost use Rattle.std.specs.Prelude.{◌≡◌, ◌+◌, ◌*◌, ◌≤◌, length};
 ghost use Rattle.std.specs.Float.{binary64};
 ghost use Rattle.std.specs.Float.Ieee.{is_nan as isNanOf, nan_bits, of_bits};

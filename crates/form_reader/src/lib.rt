@@ -1,5 +1,7 @@
 // Normal forms, read by their bytes: the ranges that a form is written from, or that the bytes are no normal form. Nothing but a normal form is
 // read, so there is no scan, no walk and no sweep.
+#![tactic(auto)]
+
 ghost use Rattle.std.specs.Prelude.{◌≤◌, ◌<◌, ◌≡◌, false, cond, ◌&&◌, pos, ◌+ℤ◌, length, get_or};
 ghost use Rattle.std.specs.Int.Signed.{lt_z};
 ghost use Rattle.form_reader.specs.FormRead.{RecordRead, RangesRead, FormAt, FormRead};

@@ -1,5 +1,7 @@
 // Every kind of record, every number given back and every limit of docs/RULES.md, once; how a scan answers in one number; and
 // the test of the two bounds of a 20 or a 30.
+#![tactic(auto)]
+
 ghost use Rattle.std.specs.Prelude.{◌≡◌};
 ghost use Rattle.format.specs.Bounds.{bad_bounds};
 

@@ -1,4 +1,6 @@
 // The bytes of a normal form. Each record writer is lent the part of the output from the current place on.
+#![tactic(auto)]
+
 ghost use Rattle.std.specs.Prelude.{◌≡◌, ◌∷◌, ◌++◌, ◌+◌, ◌<◌, ◌≤◌, length, drop};
 ghost use Rattle.integers.specs.Integer.{int_bytes};
 ghost use Rattle.ranges.specs.Spans.{span};

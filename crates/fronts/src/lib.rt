@@ -1,4 +1,6 @@
 // The first cut of a list in byte order, from the first block on, where the places are known from which the blocks after each can go on.
+#![tactic(auto)]
+
 ghost use Rattle.std.specs.Prelude.{◌≡◌, Bool, true, ℕ, ◌+◌, ◌≤◌, ◌<◌, length, take, get_or, List};
 ghost use Rattle.assign.specs.Splice.{Spliced};
 ghost use Rattle.rows.specs.Rows.{may as may_rows};

@@ -1,5 +1,7 @@
 // The program of docs/RULES.md, "The program": it reads a template and lists from standard input, and prints a line for each list.
 // Where it can't read, or can't print, it says so on standard error.
+#![tactic(auto)]
+
 ghost use Rattle.std.specs.Prelude.{◌≡◌, true, ◌+◌, ◌*◌, ◌≤◌, length, pos};
 ghost use Rattle.std.specs.Int.Signed.{lt_z};
 ghost use Rattle.io.specs.Counts.{IsPrefixLen, clamp_len};

@@ -1,4 +1,6 @@
 // What the program prints, line by line: first the input is opened, which prints the refusal of the whole input or nothing, then each list is answered.
+#![tactic(auto)]
+
 ghost use Rattle.std.specs.Prelude.{◌≤◌, length, drop};
 ghost use Rattle.lines.specs.Contract.{LineFits, Wrote};
 ghost use Rattle.format.specs.declared.Family.{Family};

@@ -1,4 +1,6 @@
 // Four bytes and a 32-bit integer: two's complement, low byte first.
+#![tactic(auto)]
+
 ghost use Rattle.std.specs.Prelude.{◌≡◌, ◌&&◌, ◌++◌, ◌+◌, ◌≤◌, length, drop};
 ghost use Rattle.std.specs.Int.Signed.{le_z};
 ghost use Rattle.integers.specs.Integer.{joined, signed, bits_at, int_at, bits, int_bytes, eq_z};

@@ -1,5 +1,7 @@
 // Tests of offered lists: is this a cut. They share the definitions of `blocks` with the search, and nothing else. Which member may take which
 // element is not asked here: only the pairs that a list gives are tested, and elsewhere.
+#![tactic(auto)]
+
 ghost use Rattle.std.specs.Prelude.{◌≡◌, ◌≤◌, eqb, take, length};
 ghost use Rattle.facts.specs.Counting.{cnt};
 ghost use Rattle.blocks.specs.Numbers.{blocks_in};

@@ -1,5 +1,7 @@
 // A leaf where it stands: the integers between which it matches, or the decoded leaf of the float family. Whoever asks what a leaf matches
 // reads it here.
+#![tactic(auto)]
+
 ghost use Rattle.std.specs.Prelude.{◌≡◌};
 ghost use Rattle.leaves.specs.Leaves.{LeafHere, BoundsHere, FloatLeafHere, FloatHere, float_leaf_size};
 

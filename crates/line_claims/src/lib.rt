@@ -1,1 +1,3 @@
 // What is claimed of the program's output as a whole: specs/Claims.antt.
+#![tactic(auto)]
+

@@ -1,4 +1,6 @@
 // Numbers in decimal, and a line of them, put into a lent buffer.
+#![tactic(auto)]
+
 ghost use Rattle.std.specs.Prelude.{◌≡◌, ◌∷◌, ◌+◌, ◌*◌, ◌≤◌, length};
 ghost use Rattle.lines.specs.Line.{decimal, space_then, spaced, line};
 ghost use Rattle.lines.specs.Contract.{placed, LineFits, Wrote};

@@ -1,5 +1,7 @@
 // When a list matches: the first witness in byte order, and the judge of an offered one. Both go by the plan of the template, which is made once
 // for as many lists as are asked about. A list is lent as integers and floats, of which one is empty.
+#![tactic(auto)]
+
 ghost use Rattle.std.specs.Prelude.{◌≡◌, ◌&&◌, cond, ◌≤◌, leb, length};
 ghost use Rattle.format.specs.declared.Family.{Family};
 ghost use Rattle.grammar.specs.Family.{list_of, Lent, some_outside};

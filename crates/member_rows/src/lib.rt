@@ -1,4 +1,6 @@
 // Which member of a template matches which element of a list.
+#![tactic(auto)]
+
 ghost use Rattle.std.specs.Prelude.{true, List, ◌≡◌, ◌+◌, ◌*◌, ◌/◌, ◌≤◌, ◌<◌, length, get_or, take};
 ghost use Rattle.grammar.specs.Element.{Elem};
 ghost use Rattle.std.specs.Float.{nan};

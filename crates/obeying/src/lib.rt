@@ -1,4 +1,6 @@
 // What the body of a template asks of an offered witness whose pairs are right. It uses nothing of the search.
+#![tactic(auto)]
+
 ghost use Rattle.std.specs.Prelude.{◌&&◌, ◌≡◌, ◌+◌, ◌≤◌, eqb, leb, length, take};
 ghost use Rattle.blocks.specs.Numbers.{blocks_in};
 ghost use Rattle.blocks.specs.Pieces.{Inside};

@@ -1,4 +1,6 @@
 // The pairs that an offered witness gives: each element with its member. Only these are tested.
+#![tactic(auto)]
+
 ghost use Rattle.std.specs.Prelude.{List, ◌≡◌, ◌+◌, length, take};
 ghost use Rattle.grammar.specs.Element.{Elem};
 ghost use Rattle.format.specs.declared.Family.{Family};

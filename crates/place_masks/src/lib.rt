@@ -1,5 +1,7 @@
 // Sets of the places of a list as masks of 64 bits: cut off, taken together, and spread by spare elements. No proof above these functions
 // sees a shift.
+#![tactic(auto)]
+
 ghost use Rattle.std.specs.Prelude.{◌≡◌, ◌&&◌, ◌||◌, not, ℕ, ◌+◌, ◌-◌, ◌<◌, ◌≤◌, leb, ltb};
 ghost use Rattle.masks.specs.Masks.{bit, Lowest, Highest};
 ghost use Rattle.place_masks.specs.Places.{Before, After};

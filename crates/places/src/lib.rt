@@ -1,5 +1,7 @@
 // The places of a list from which blocks can go on to its end, one block more at a time, in front. A block with no members only moves
 // places, one member is tested by the caller, and any other block is searched for here.
+#![tactic(auto)]
+
 ghost use Rattle.std.specs.Prelude.{◌≡◌, ◌&&◌, ℕ, ◌+◌, ◌<◌, ◌≤◌, ltb};
 ghost use Rattle.masks.specs.Masks.{bit};
 ghost use Rattle.place_masks.specs.Places.{Ahead};

@@ -1,4 +1,6 @@
 // Records of element templates only: the search and the judge look for them first.
+#![tactic(auto)]
+
 ghost use Rattle.std.specs.Prelude.{◌≡◌, ◌≤◌, ◌<◌, length};
 ghost use Rattle.blocks.specs.Numbers.{block, block_in};
 ghost use Rattle.blocks.specs.Pieces.{Passing};

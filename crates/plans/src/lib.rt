@@ -1,4 +1,6 @@
 // What a template says in numbers: made once by the scan, read for every list by the matcher, the judge and the reason.
+#![tactic(auto)]
+
 use sorts::Sort;
 
 // The refusal's number or 0; the least and greatest length of the list; the sort of the leaves, with the element type; the body's kind, CONTAINMENT for a

@@ -1,5 +1,7 @@
 // Why there is no assignment: the group of members whose shortfall is greatest, and which lies inside all other such groups.
 // Bit m of `rows[e]` says that member m matches element e.
+#![tactic(auto)]
+
 ghost use Rattle.std.specs.Prelude.{◌≡◌, ◌&&◌, ℕ, ◌≤◌, ltb};
 ghost use Rattle.masks.specs.Masks.{bit};
 ghost use Rattle.rows.specs.Rows.{may};

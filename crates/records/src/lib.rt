@@ -1,6 +1,8 @@
 // The first witness of a record of, from its bytes. From the last block to the first: the places from which the blocks can go on to the end of the
 // list, where a member that stands alone is tested on the elements that are asked about only, and the rows of a group's members are made when
 // the group is reached. Then from the first block on the first cut.
+#![tactic(auto)]
+
 ghost use Rattle.std.specs.Prelude.{List, ◌≡◌, ℕ, ◌+◌, ◌≤◌, length, take};
 ghost use Rattle.grammar.specs.Element.{Elem};
 ghost use Rattle.format.specs.declared.Family.{Family};

@@ -1,4 +1,6 @@
 // From an assignment to the first one in byte order: from left to right each element is given the least member that it can have.
+#![tactic(auto)]
+
 ghost use Rattle.std.specs.Prelude.{◌≡◌, true, ◌&&◌, ℕ, ◌+◌, ◌<◌, ◌≤◌, min, get_or};
 ghost use Rattle.masks.specs.Masks.{bit};
 ghost use Rattle.facts.specs.Counting.{between};

@@ -1,4 +1,6 @@
 // The whole output of an input, put into a lent buffer.
+#![tactic(auto)]
+
 ghost use Rattle.std.specs.Prelude.{◌≡◌, ◌+◌, ◌*◌, ◌≤◌, length, drop};
 ghost use Rattle.grammar.specs.Read.{got};
 ghost use Rattle.lines.specs.Contract.{Wrote};

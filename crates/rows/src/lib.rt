@@ -1,5 +1,7 @@
 // Which member may take which element: by a row for each element, and turned, by a row for each member, for a search that starts at
 // members. Beside these functions only those that make rows or take an element's members together know that a row is an element's.
+#![tactic(auto)]
+
 ghost use Rattle.std.specs.Prelude.{◌≡◌, ℕ, ◌+◌, ◌<◌, ◌≤◌};
 ghost use Rattle.masks.specs.Masks.{bit};
 ghost use Rattle.rows.specs.Rows.{picks};

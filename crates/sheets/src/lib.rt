@@ -1,4 +1,6 @@
 // The plain reading of a subset: every element has a member, and a member may stand many times.
+#![tactic(auto)]
+
 ghost use Rattle.std.specs.Prelude.{List, ◌≡◌, ◌+◌, ◌≤◌, length, take};
 ghost use Rattle.format.specs.declared.Family.{Family};
 ghost use Rattle.rows.specs.Rows.{may};

@@ -1,5 +1,7 @@
 // The sort of a template's leaves: their family and, of integers, the type. It is one number, so that a scan hands it on in a register: the bits of the
 // lower bound in the high half, those of the upper one in the low half. The number of the floats is that of no type: its bounds are reversed.
+#![tactic(auto)]
+
 ghost use Rattle.std.specs.Prelude.{◌≡◌, ◌||◌};
 ghost use Rattle.std.specs.Int.Signed.{lt_z};
 ghost use Rattle.format.specs.declared.Family.{Family};

@@ -1,4 +1,6 @@
 // The records of the input: the fault of one, the place after the template, and each list.
+#![tactic(auto)]
+
 ghost use Rattle.std.specs.Prelude.{◌≡◌, ◌≤◌, length, drop};
 ghost use Rattle.stream.specs.Input.{record_fault, integers, list_fault, list_here, after_template};
 ghost use Rattle.stream.specs.Contract.{Listed};

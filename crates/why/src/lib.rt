@@ -1,4 +1,6 @@
 // Why a list does not match: the matcher's number, and for a superset or a subset the group that is the reason.
+#![tactic(auto)]
+
 ghost use Rattle.std.specs.Prelude.{◌≡◌, ◌||◌, eqb};
 ghost use Rattle.format.specs.declared.Family.{Family};
 ghost use Rattle.grammar.specs.Family.{list_of, Lent};

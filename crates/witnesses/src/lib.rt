@@ -1,4 +1,6 @@
 // The first witness in byte order, by the parts of a plan: a record of from its bytes, every other body by the rows.
+#![tactic(auto)]
+
 ghost use Rattle.std.specs.Prelude.{List, [], ◌∷◌, ◌+◌, ◌≤◌, length, take};
 ghost use Rattle.grammar.specs.Element.{Elem};
 ghost use Rattle.format.specs.declared.Family.{Family};
