@@ -21,7 +21,7 @@ abbrev pub again : ℤ → ℤ
 again z = to_z w32 (of_z w32 z)
 
 pub again_same : (z : ℤ) → Word z → again z ≡ z
-again_same z p = to_z-of_z (record { sfits = p })
+again_same z p = to_z-of_z {w = w32} (record { sfits = p })
 
 pub word_num : (b : ℕ) → b < 4294967296 → Word (num b)
 word_num b p = (sfits_to_z {w = w32} {n = b} (record { fits = p })).sfits

@@ -3,32 +3,32 @@ use borrow.Author.Rules.{rules}
 use Rattle.integers.proofs.bits_at.Statement.{statement}
 use Rattle.integers.proofs.bits_at.Tie as tie
 
-shared_slice_read_join_bytes : tie.Need-shared-slice-read-join-bytes
+shared_slice_read_join_bytes : tie.Need-bounds-s-at
 shared_slice_read_join_bytes c = search rules
 
-add_join_bytes : tie.Need-overflow-add-join-bytes
+add_join_bytes : tie.Need-overflow_add-at
 add_join_bytes c = search rules
 
-shared_slice_read_join_bytes_2 : tie.Need-shared-slice-read-join-bytes-2
+shared_slice_read_join_bytes_2 : tie.Need-bounds-s-at-2
 shared_slice_read_join_bytes_2 c = search rules
 
-add_join_bytes_2 : tie.Need-overflow-add-join-bytes-2
+add_join_bytes_2 : tie.Need-overflow_add-at-2
 add_join_bytes_2 c = search rules
 
-shared_slice_read_join_bytes_3 : tie.Need-shared-slice-read-join-bytes-3
+shared_slice_read_join_bytes_3 : tie.Need-bounds-s-at-3
 shared_slice_read_join_bytes_3 c = search rules
 
-add_join_bytes_3 : tie.Need-overflow-add-join-bytes-3
+add_join_bytes_3 : tie.Need-overflow_add-at-3
 add_join_bytes_3 c = search rules
 
-shared_slice_read_join_bytes_4 : tie.Need-shared-slice-read-join-bytes-4
+shared_slice_read_join_bytes_4 : tie.Need-bounds-s-at-4
 shared_slice_read_join_bytes_4 c = search rules
 
-join_bytes_requires : tie.Need-join-bytes-requires
+join_bytes_requires : tie.Need-join_bytes-requires
 join_bytes_requires c κs = search rules
 
 returns : tie.Need-returns
-returns c = c.join-bytes.ensures
+returns c = c.join_bytes.ensures
 
 pub bits_at_spec : {M : Type 1} → statement M
 bits_at_spec =

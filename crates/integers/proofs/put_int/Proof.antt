@@ -20,34 +20,34 @@ four_set (x ∷ y ∷ []) a b c d p = absurd (omega arith)
 four_set (x ∷ y ∷ z ∷ []) a b c d p = absurd (omega arith)
 four_set (x ∷ y ∷ z ∷ w ∷ l) a b c d p = refl
 
-to_bits_requires : tie.Need-to-bits-requires
+to_bits_requires : tie.Need-to_bits-u-requires
 to_bits_requires c κs = search rules
 
-cast_out : tie.Need-overflow-cast-out
+cast_out : tie.Need-overflow_cast-out
 cast_out c = search rules
 
-slice_write_out : tie.Need-slice-write-out
+slice_write_out : tie.Need-bounds-out-0
 slice_write_out c = search rules
 
-cast_out_2 : tie.Need-overflow-cast-out-2
+cast_out_2 : tie.Need-overflow_cast-out-2
 cast_out_2 c = search rules
 
-slice_write_out_2 : tie.Need-slice-write-out-2
+slice_write_out_2 : tie.Need-bounds-out-1
 slice_write_out_2 c = simp length-set (omega arith)
 
-cast_out_3 : tie.Need-overflow-cast-out-3
+cast_out_3 : tie.Need-overflow_cast-out-3
 cast_out_3 c = search rules
 
-slice_write_out_3 : tie.Need-slice-write-out-3
+slice_write_out_3 : tie.Need-bounds-out-2
 slice_write_out_3 c = simp length-set (omega arith)
 
-cast_out_4 : tie.Need-overflow-cast-out-4
+cast_out_4 : tie.Need-overflow_cast-out-4
 cast_out_4 c = search rules
 
-slice_write_out_4 : tie.Need-slice-write-out-4
+slice_write_out_4 : tie.Need-bounds-out-3
 slice_write_out_4 c = search rules
 
-same_length : tie.Need-same-length
+same_length : tie.Need-shape_of-out
 same_length c = search rules
 
 returns : tie.Need-returns
@@ -55,7 +55,7 @@ unfolding int_bytes
 returns c =
     let s = c.before.before in
     let l = s.args.out.now in
-    four_set l _ _ _ _ s.requires ∙ ap (λ (u : ℕ). four_bytes u ++ drop 4 l) (c.to-bits.ensures ∙ ap bits (again_same s.args.x s.ranges.x.sfits))
+    four_set l _ _ _ _ s.requires ∙ ap (λ (u : ℕ). four_bytes u ++ drop 4 l) (c.to_bits-u.ensures ∙ ap bits (again_same s.args.x s.ranges.x.sfits))
 
 pub put_int_spec : {M : Type 1} → statement M
 put_int_spec =

@@ -37,31 +37,31 @@ module _ (c : tie.Start) where
   same : to_z w32 (of_z w32 x) ≡ x
   same = again_same x w
 
-moved : (c : tie.Then1) → to_z w32 (of_z w32 (to_z w32 (of_z w32 (x c.before)) -ℤ negsuc 2147483647)) ≡ x c.before -ℤ negsuc 2147483647
-moved c = rw (same c.before) (again_same _ (moved_word (x c.before) (w c.before) (rw (same c.before) at c.if1.true)))
+moved : (c : tie.Then-x-lt0) → to_z w32 (of_z w32 (to_z w32 (of_z w32 (x c.before)) -ℤ negsuc 2147483647)) ≡ x c.before -ℤ negsuc 2147483647
+moved c = rw (same c.before) (again_same _ (moved_word (x c.before) (w c.before) (rw (same c.before) at c.if-x-lt0.true)))
 
-up : (c : tie.Then1) → T (non_neg (x c.before -ℤ negsuc 2147483647)) × (nat_abs (x c.before -ℤ negsuc 2147483647) + 2147483648 ≡ bits (x c.before))
-up c = moved_up (x c.before) (w c.before) (rw (same c.before) at c.if1.true)
+up : (c : tie.Then-x-lt0) → T (non_neg (x c.before -ℤ negsuc 2147483647)) × (nat_abs (x c.before -ℤ negsuc 2147483647) + 2147483648 ≡ bits (x c.before))
+up c = moved_up (x c.before) (w c.before) (rw (same c.before) at c.if-x-lt0.true)
 
-stays : (c : tie.Else1) → T (non_neg (x c.before)) × (nat_abs (x c.before) ≡ bits (x c.before))
-stays c = kept (x c.before) (w c.before) (rw (same c.before) at c.if1.false)
+stays : (c : tie.Else-x-lt0) → T (non_neg (x c.before)) × (nat_abs (x c.before) ≡ bits (x c.before))
+stays c = kept (x c.before) (w c.before) (rw (same c.before) at c.if-x-lt0.false)
 
-sub_result : tie.Need-overflow-sub-result
-sub_result c = rw (same c.before) (record { sfits = moved_word (x c.before) (w c.before) (rw (same c.before) at c.if1.true) })
+sub_result : tie.Need-overflow_sub-result
+sub_result c = rw (same c.before) (record { sfits = moved_word (x c.before) (w c.before) (rw (same c.before) at c.if-x-lt0.true) })
 
-cast_result : tie.Need-overflow-cast-result
+cast_result : tie.Need-overflow_cast-result
 cast_result c = rw (moved c) ((up c).0, record { fits = omega (arith, (up c).1, bits_word (x c.before) (w c.before)) })
 
-add_result : tie.Need-overflow-add-result
+add_result : tie.Need-overflow_add-result
 add_result c = rw (moved c) (record { fits = omega (arith, (up c).1, bits_word (x c.before) (w c.before)) })
 
-cast_result_2 : tie.Need-overflow-cast-result-2
+cast_result_2 : tie.Need-overflow_cast-result-else-x-lt0
 cast_result_2 c = rw (same c.before) ((stays c).0, record { fits = omega (arith, (stays c).1, bits_word (x c.before) (w c.before)) })
 
-returns : tie.Need-returns
+returns : tie.Need-returns-then-x-lt0
 returns c = rw (moved c) (up c).1
 
-returns_2 : tie.Need-returns-2
+returns_2 : tie.Need-returns-else-x-lt0
 returns_2 c = rw (same c.before) (stays c).1
 
 pub to_bits_spec : {M : Type 1} → statement M

@@ -11,13 +11,13 @@ use Rattle.integers.proofs.FourBytes.{signed_low, signed_high}
 use Rattle.integers.proofs.to_signed.Statement.{statement}
 use Rattle.integers.proofs.to_signed.Tie as tie
 
-cast_result : tie.Need-overflow-cast-result
+cast_result : tie.Need-overflow_cast-result
 cast_result c = search rules
 
-sub_result : tie.Need-overflow-sub-result
+sub_result : tie.Need-overflow_sub-result
 sub_result c = search rules
 
-cast_result_2 : tie.Need-overflow-cast-result-2
+cast_result_2 : tie.Need-overflow_cast-result-else-u-lt2147483648
 cast_result_2 c = search rules
 
 -- one below zero, less k
@@ -32,16 +32,16 @@ code_is u l h = ap (λ (z : ℤ). negsuc 0 -ℤ z) (to_z_pos w32 {n = 4294967295
 fits : (u : ℕ) → 2147483648 ≤ u → u < 4294967296 → SFits w32 (negsuc 0 -ℤ to_z w32 (4294967295 - u))
 fits u l h = rw (code_is u l h) (record { sfits = omega arith })
 
-sub_result_2 : tie.Need-overflow-sub-result-2
-sub_result_2 c = fits c.before.args.u c.if1.false c.before.ranges.u.fits
+sub_result_2 : tie.Need-overflow_sub-result-else-u-lt2147483648
+sub_result_2 c = fits c.before.args.u c.if-u-lt2147483648.false c.before.ranges.u.fits
 
-returns : tie.Need-returns
-returns c = to_z_pos w32 c.if1.true ∙ sym (signed_low c.before.args.u c.if1.true)
+returns : tie.Need-returns-then-u-lt2147483648
+returns c = to_z_pos w32 c.if-u-lt2147483648.true ∙ sym (signed_low c.before.args.u c.if-u-lt2147483648.true)
 
-returns_2 : tie.Need-returns-2
+returns_2 : tie.Need-returns-else-u-lt2147483648
 returns_2 c =
-    to_z-of_z {w = w32} (sub_result_2 c) ∙ code_is c.before.args.u c.if1.false c.before.ranges.u.fits
-    ∙ sym (signed_high c.before.args.u c.if1.false)
+    to_z-of_z {w = w32} (sub_result_2 c) ∙ code_is c.before.args.u c.if-u-lt2147483648.false c.before.ranges.u.fits
+    ∙ sym (signed_high c.before.args.u c.if-u-lt2147483648.false)
 
 pub to_signed_spec : {M : Type 1} → statement M
 to_signed_spec =

@@ -20,17 +20,17 @@ second t u e = rw e
 first : (t u : Bool) → t ≡ false → t ≡ (t && u)
 first t u e = rw e
 
-returns : tie.Need-returns
+returns : tie.Need-returns-then-lower-x
 returns c =
     let a = c.before.args in
     let f = c.before.ranges in
-    plain f.x f.upper ∙ second (le_z a.lower a.x) (le_z a.x a.upper) (sym (plain f.lower f.x) ∙ c.if1.true)
+    plain f.x f.upper ∙ second (le_z a.lower a.x) (le_z a.x a.upper) (sym (plain f.lower f.x) ∙ c.if-lower-x.true)
 
-returns_2 : tie.Need-returns-2
+returns_2 : tie.Need-returns-else-lower-x
 returns_2 c =
     let a = c.before.args in
     let f = c.before.ranges in
-    plain f.lower f.x ∙ first (le_z a.lower a.x) (le_z a.x a.upper) (sym (plain f.lower f.x) ∙ c.if1.false)
+    plain f.lower f.x ∙ first (le_z a.lower a.x) (le_z a.x a.upper) (sym (plain f.lower f.x) ∙ c.if-lower-x.false)
 
 pub within_spec : {M : Type 1} → statement M
 within_spec = tie.close (tie.spec returns returns_2)

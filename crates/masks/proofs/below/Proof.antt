@@ -5,13 +5,13 @@ use Rattle.masks.proofs.Masks.{below_bits, below_fits}
 use Rattle.masks.proofs.below.Statement.{statement}
 use Rattle.masks.proofs.below.Tie as tie
 
-shl_result : tie.Need-overflow-shl-result
+shl_result : tie.Need-overflow_shl-result
 shl_result c = search rules
 
-sub_result : tie.Need-overflow-sub-result
+sub_result : tie.Need-overflow_sub-result
 sub_result c = (below_fits c.args.k c.requires).0
 
-cast_result : tie.Need-overflow-cast-result
+cast_result : tie.Need-overflow_cast-result-2
 cast_result c = record { fits = (below_fits c.args.k c.requires).1 }
 
 returns : tie.Need-returns

@@ -4,7 +4,7 @@ use Rattle.masks.proofs.Masks.{bit_flip}
 use Rattle.masks.proofs.flip.Statement.{statement}
 use Rattle.masks.proofs.flip.Tie as tie
 
-shl_result : tie.Need-overflow-shl-result
+shl_result : tie.Need-overflow_shl-result
 shl_result c = search rules
 
 returns : tie.Need-returns

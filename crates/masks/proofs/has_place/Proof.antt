@@ -4,7 +4,7 @@ use Rattle.masks.specs.Masks.{bit}
 use Rattle.masks.proofs.has_place.Statement.{statement}
 use Rattle.masks.proofs.has_place.Tie as tie
 
-shr_result : tie.Need-overflow-shr-result
+shr_result : tie.Need-overflow_shr-result
 shr_result c = search rules
 
 returns : tie.Need-returns

@@ -7,10 +7,10 @@ use Rattle.masks.proofs.Masks.{highest_bit, leading_few}
 use Rattle.masks.proofs.highest.Statement.{statement}
 use Rattle.masks.proofs.highest.Tie as tie
 
-sub_result : tie.Need-overflow-sub-result
+sub_result : tie.Need-overflow_sub-result
 sub_result c = omega (arith, leading_few 32 c.args.mask c.requires c.ranges.mask.fits)
 
-cast_result : tie.Need-overflow-cast-result
+cast_result : tie.Need-overflow_cast-result
 cast_result c = search rules
 
 returns : tie.Need-returns

@@ -5,7 +5,7 @@ use Rattle.masks.proofs.Masks.{lowest_bit}
 use Rattle.masks.proofs.lowest.Statement.{statement}
 use Rattle.masks.proofs.lowest.Tie as tie
 
-cast_result : tie.Need-overflow-cast-result
+cast_result : tie.Need-overflow_cast-result
 cast_result c = omega (arith, trailing_le 32 c.args.mask)
 
 returns : tie.Need-returns

@@ -4,7 +4,7 @@ use Rattle.masks.proofs.Masks.{bit_with}
 use Rattle.masks.proofs.with_place.Statement.{statement}
 use Rattle.masks.proofs.with_place.Tie as tie
 
-shl_result : tie.Need-overflow-shl-result
+shl_result : tie.Need-overflow_shl-result
 shl_result c = search rules
 
 returns : tie.Need-returns

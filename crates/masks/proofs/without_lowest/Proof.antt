@@ -3,7 +3,7 @@ use Rattle.masks.proofs.Masks.{lowest_gone}
 use Rattle.masks.proofs.without_lowest.Statement.{statement}
 use Rattle.masks.proofs.without_lowest.Tie as tie
 
-sub_result : tie.Need-overflow-sub-result
+sub_result : tie.Need-overflow_sub-result
 sub_result c = c.requires
 
 returns : tie.Need-returns
