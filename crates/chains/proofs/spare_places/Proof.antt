@@ -44,8 +44,8 @@ loop_again c =
       omega arith,
       omega arith,
       ⊎_elim
-          (λ w. subst again (sym w.free-is) (spares_free i.0 i.2 w.with-free.ensures w.if-w-e-ge-MEMBERS_MOST.taken))
-          (λ w. subst again (sym w.free-is) (spares_held i.0 i.2 w.0.left))
+          (λ w. subst again (sym w.free-is) (spares_free i.0 i.2 w.with-free.ensures w.if-w-e-ge-MEMBERS_MOST.true))
+          (λ w. subst again (sym w.free-is) (spares_held i.0 i.2 w.if-w-e-ge-MEMBERS_MOST.false))
           c.if-w-e-ge-MEMBERS_MOST.branch-raw,
     )
 
