@@ -47,7 +47,7 @@ returns : tie.Need-returns
 returns c =
     let s = c.before.before.before.before.before.before.before.before.before.before.before.before in
     λ may g. group_moved s.requires.0 s.requires.1 s.requires.2 s.requires.5 g c.before.before.before.before.before.before.before.before.before.before.before.first_member.ensures c.before.before.before.before.before.before.before.before.before.before.after_last.ensures
-    (nexts_are c.before.before.before.up_to_lem.result c.before.before.after-spares.result c.before.from_on.result s.requires.2 c.before.before.before.up_to_lem.ensures c.before.before.after-spares.ensures c.before.from_on.ensures c.in_both.ensures)
+    (nexts_are c.before.before.before.up_to.result c.before.before.after-spares.result c.before.from_on.result s.requires.2 c.before.before.before.up_to.ensures c.before.before.after-spares.ensures c.before.from_on.ensures c.in_both.ensures)
     c.before.before.before.before.before.before.before.before.copy-piece.ensures
 
 pub settle_group_spec : {M : Type 1} → statement M

@@ -15,18 +15,18 @@ use Rattle.places.proofs.led_from.Statement.{statement}
 use Rattle.places.proofs.led_from.Tie as tie
 
 -- the end that is ahead of p is among those that are looked at
-ahead : (c : tie.After-up-to) → bit c.up_to_lem.result c.before.before.before.before.before.requires.2.place ≡ true
+ahead : (c : tie.After-up-to) → bit c.up_to.result c.before.before.before.before.before.requires.2.place ≡ true
 ahead c =
     let s = c.before.before.before.before.before in
     let a = s.requires.2 in
     let f = a.far in
-    c.up_to_lem.ensures a.place ∙ both (leb a.place (s.args.p + (s.args.b.k + s.args.b.max))) (bit s.args.good a.place) (le-leb _ _ f) a.here
+    c.up_to.ensures a.place ∙ both (leb a.place (s.args.p + (s.args.b.k + s.args.b.max))) (bit s.args.good a.place) (le-leb _ _ f) a.here
 
 abbrev start : tie.After-highest-place → tie.Start
 start c = c.before.before.before.before.before.before
 
 reached : (c : tie.After-highest-place) → Furthest (start c).args.good ((start c).args.p + ((start c).args.b.k + (start c).args.b.max)) c.highest-place.result
-reached c = furthest_is c.before.up_to_lem.result c.before.up_to_lem.ensures c.highest-place.ensures
+reached c = furthest_is c.before.up_to.result c.before.up_to.ensures c.highest-place.ensures
 
 enough : (c : tie.After-highest-place) → (start c).args.p + ((start c).args.b.k + (start c).args.b.min) ≤ c.highest-place.result
 enough c =

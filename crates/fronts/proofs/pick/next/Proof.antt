@@ -23,7 +23,7 @@ lead : (c : tie.After-highest-place) → Leads (may (begun c).args.rows.now) (be
 lead c = (begun c).requires.3.each _ ((begun c).requires.5.inside _ c.before.before.before.before.before.lowest-place.ensures.inside)
 
 far : (c : tie.After-highest-place) → Furthest (begun c).args.ends (c.before.before.before.before.before.lowest-place.result + ((begun c).args.b.k + (begun c).args.b.max)) c.highest-place.result
-far c = furthest_is c.before.up_to_lem.result c.before.up_to_lem.ensures c.highest-place.ensures
+far c = furthest_is c.before.up_to.result c.before.up_to.ensures c.highest-place.ensures
 
 order : (c : tie.After-highest-place) → c.before.before.before.before.before.lowest-place.result ≤ c.highest-place.result
 order c = omega (arith, lead_order (lead c) (far c))
@@ -65,7 +65,7 @@ up_to_requires : tie.Need-up-to-requires
 up_to_requires c κs = search rules
 
 highest_place_requires : tie.Need-highest-place-requires
-highest_place_requires c κs = lead_cut c.up_to_lem.result (c.before.before.before.before.before.requires.3.each _ (c.before.before.before.before.before.requires.5.inside _ c.before.before.before.before.lowest-place.ensures.inside)) c.up_to_lem.ensures
+highest_place_requires c κs = lead_cut c.up_to.result (c.before.before.before.before.before.requires.3.each _ (c.before.before.before.before.before.requires.5.inside _ c.before.before.before.before.lowest-place.ensures.inside)) c.up_to.ensures
 
 returns : tie.Need-returns
 returns c =

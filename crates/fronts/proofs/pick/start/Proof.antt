@@ -12,8 +12,8 @@ use Rattle.fronts.proofs.pick.start.Tie as tie
 abbrev least : tie.After-up-to → tie.After-lowest-place
 least c = c.before.before.before.before.before.before
 
-within : (c : tie.After-up-to) → Within (least c).before.args.b (least c).before.args.ends (least c).lowest-place.result c.up_to_lem.result
-within c = within_is c.before.from_on.result c.before.from_on.ensures c.up_to_lem.ensures
+within : (c : tie.After-up-to) → Within (least c).before.args.b (least c).before.args.ends (least c).lowest-place.result c.up_to.result
+within c = within_is c.before.from_on.result c.before.from_on.ensures c.up_to.ensures
 
 far : (c : tie.After-highest-place) → let l = least c.before.before in Furthest l.before.args.ends (l.lowest-place.result + (l.before.args.b.k + l.before.args.b.max)) c.highest-place.result
 far c = near_furthest (within c.before.before) c.highest-place.ensures

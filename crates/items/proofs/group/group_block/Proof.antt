@@ -39,7 +39,7 @@ number_of_requires c κs = search rules
 returns : tie.Need-returns
 returns c =
     let a = c.before.before.before.args in
-    none_there a.t.now a.m a.count a.star _ c.before.if1.true c.number_of_lem.ensures
+    none_there a.t.now a.m a.count a.star _ c.before.if1.true c.number_of.ensures
 
 shared_slice_read_t11 : tie.Need-shared-slice-read-t11
 shared_slice_read_t11 c =

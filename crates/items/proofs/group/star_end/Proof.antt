@@ -38,7 +38,7 @@ returns_3 : tie.Need-returns-3
 returns_3 c =
     let start = c.before.before.before.before in
     let a = start.args in
-    star_right a.t.now a.at a.seen c.before.before.bounds_fault_lem.result c.before.before.bounds_fault_lem.ensures c.before.if1.false c.if2.false start.requires.1
+    star_right a.t.now a.at a.seen c.before.before.bounds_fault.result c.before.before.bounds_fault.ensures c.before.if1.false c.if2.false start.requires.1
 
 pub star_end_spec : {M : Type 1} → statement M
 star_end_spec =

@@ -65,7 +65,7 @@ returns_3 c =
     let a = start.args in
     let kinds = no_other c.before.before.before.before.before in
     let w = member_read a.sort whole a.t.now a.at a.m a.places.now _ _ c.before.before.if4.true c.integer-member-end.ensures in
-    (noted_as (item_member (leaves_for a.sort) a.t.now a.at a.m _ c.before.before.before.before.before.before.kind_at.ensures kinds.0 kinds.1) (map_noted one (λ e q h. one_item (family_of a.sort) _ _ _ _ _ e h c.before.before.before.before.number_of_lem.ensures) w.read), w.size)
+    (noted_as (item_member (leaves_for a.sort) a.t.now a.at a.m _ c.before.before.before.before.before.before.kind_at.ensures kinds.0 kinds.1) (map_noted one (λ e q h. one_item (family_of a.sort) _ _ _ _ _ e h c.before.before.before.before.number_of.ensures) w.read), w.size)
 
 returns_4 : tie.Need-returns-4
 returns_4 c =
@@ -73,7 +73,7 @@ returns_4 c =
     let a = start.args in
     let kinds = no_other c.before.before.before.before.before in
     let w = member_read a.sort a.sort a.t.now a.at a.m a.places.now _ _ refl c.other-member-end.ensures in
-    (noted_as (item_member (leaves_for a.sort) a.t.now a.at a.m _ c.before.before.before.before.before.before.kind_at.ensures kinds.0 kinds.1) (map_noted one (λ e q h. one_item (family_of a.sort) _ _ _ _ _ e h c.before.before.before.before.number_of_lem.ensures) w.read), w.size)
+    (noted_as (item_member (leaves_for a.sort) a.t.now a.at a.m _ c.before.before.before.before.before.before.kind_at.ensures kinds.0 kinds.1) (map_noted one (λ e q h. one_item (family_of a.sort) _ _ _ _ _ e h c.before.before.before.before.number_of.ensures) w.read), w.size)
 
 pub item_end_spec : {M : Type 1} → statement M
 item_end_spec =

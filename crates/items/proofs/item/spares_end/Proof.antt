@@ -44,7 +44,7 @@ number_of_requires c κs = search rules
 
 returns_2 : tie.Need-returns-2
 returns_2 c =
-    λ fam places. map_noted as_spares (λ st q v. spares_item fam _ _ _ _ _ places st v c.number_of_lem.ensures) c.before.before.before.before.star-end.ensures
+    λ fam places. map_noted as_spares (λ st q v. spares_item fam _ _ _ _ _ places st v c.number_of.ensures) c.before.before.before.before.star-end.ensures
 
 pub spares_end_spec : {M : Type 1} → statement M
 spares_end_spec =
