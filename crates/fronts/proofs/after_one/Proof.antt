@@ -17,7 +17,7 @@ add_with_place c = search rules
 with_place_requires : tie.Need-with_place-requires
 with_place_requires c κs = let p = c.before.requires.3 _ c.lowest_place-q.ensures.inside in omega arith
 
-add_t9 : tie.Need-overflow_add-q
+add_t9 : tie.Need-overflow_add-result
 add_t9 c = search rules
 
 returns : tie.Need-returns
@@ -31,5 +31,5 @@ after_one_spec =
     element_write_w
     add_with_place
     with_place_requires
-    add_t9.before
+    add_t9
     returns)
