@@ -21,7 +21,7 @@ use sorts::{Sort, typed, untyped};
 
 // The heads of a template: their fault, or 0; the place after them; whether sheet 1 reads a subset plainly; the length attribute, where one is given; the sort
 // of the leaves.
-#[derive(Drop)]
+#[derive(Clone, Copy)]
 pub struct Heads {
     pub code: u8,
     pub next: usize,

@@ -15,19 +15,19 @@ use Rattle.matcher.proofs.Inside.{outside_step, outside_end}
 use Rattle.matcher.proofs.some_outside.Statement.{statement}
 use Rattle.matcher.proofs.some_outside.Tie as tie
 
-abbrev invariant_loop : tie.invariant-loop
+abbrev invariant_loop : tie.invariant-loop-k
 invariant_loop sort list k₀ k = (k ≤ length list) × (some_outside (lower_of sort) (upper_of sort) (drop k list) ≡ some_outside (lower_of sort) (upper_of sort) list)
 
-abbrev decreases_loop : tie.decreases-loop
+abbrev decreases_loop : tie.decreases-loop-k
 decreases_loop sort list k₀ k = length list - k
 
-loop_holds : tie.Need-loop-init invariant_loop decreases_loop
+loop_holds : tie.Need-loop-k-init invariant_loop decreases_loop
 loop_holds c = (omega arith, refl)
 
-mul_x : tie.Need-overflow-mul-x invariant_loop decreases_loop
+mul_x : tie.Need-offset_bounds-list-k invariant_loop decreases_loop
 mul_x c = search rules
 
-shared_slice_copy_out_x : tie.Need-shared-slice-copy-out-x invariant_loop decreases_loop
+shared_slice_copy_out_x : tie.Need-bounds-list-k invariant_loop decreases_loop
 shared_slice_copy_out_x c = search rules
 
 reaches_requires : tie.Need-reaches-requires invariant_loop decreases_loop
@@ -41,32 +41,32 @@ no_of b r s e h = rw e at h
 
 -- what the test says of the element at k, and of those after it
 told : (c : tie.After-reaches invariant_loop decreases_loop) → let s = c.before.before.before.before in let xs = s.args.list.now in
-    (c.reaches.result || some_outside (lower_of s.args.sort) (upper_of s.args.sort) (drop (c.before.before.before.loop.k + 1) xs)) ≡ some_outside (lower_of s.args.sort) (upper_of s.args.sort) xs
+    (c.reaches.result || some_outside (lower_of s.args.sort) (upper_of s.args.sort) (drop (c.loop-k.k + 1) xs)) ≡ some_outside (lower_of s.args.sort) (upper_of s.args.sort) xs
 told c =
     let at = c.before.before.before in
     let s = at.before in
     let xs = s.args.list.now in
-    let x = get_or xs at.loop.k (pos 0) in
-    let w : Word x = c.before.x.given in
+    let x = get_or xs at.loop-k.k (pos 0) in
+    let w : Word x = c.x-1.given in
     let e : c.reaches.result ≡ (lt_z x (lower_of s.args.sort) || lt_z (upper_of s.args.sort) x) = c.reaches.ensures ∙ rw (again_same x w) in
-    ap (λ (b : Bool). b || some_outside (lower_of s.args.sort) (upper_of s.args.sort) (drop (at.loop.k + 1) xs)) e
-    ∙ sym (outside_step (lower_of s.args.sort) (upper_of s.args.sort) xs at.loop.k c.before.before.loop-test.true)
-    ∙ at.loop.invariant.1
+    ap (λ (b : Bool). b || some_outside (lower_of s.args.sort) (upper_of s.args.sort) (drop (at.loop-k.k + 1) xs)) e
+    ∙ sym (outside_step (lower_of s.args.sort) (upper_of s.args.sort) xs at.loop-k.k c.loop-k-test.true)
+    ∙ at.loop-k.invariant.1
 
-returns : tie.Need-returns invariant_loop decreases_loop
-returns c = yes_of _ _ _ c.if1.true (told c.before)
+returns : tie.Need-returns-then-reaches invariant_loop decreases_loop
+returns c = yes_of _ _ _ c.if-reaches.true (told c.before)
 
-add_k : tie.Need-overflow-add-k invariant_loop decreases_loop
+add_k : tie.Need-overflow_add-k invariant_loop decreases_loop
 add_k c = search rules
 
-loop_less : tie.Need-loop-smaller invariant_loop decreases_loop
+loop_less : tie.Need-loop-k-smaller invariant_loop decreases_loop
 loop_less c = search rules
 
-loop_again : tie.Need-loop-preserved invariant_loop decreases_loop
-loop_again c = (omega (arith, c.before.before.before.loop-test.true), no_of _ _ _ c.if1.false (told c.before))
+loop_again : tie.Need-loop-k-preserved invariant_loop decreases_loop
+loop_again c = (omega (arith, c.loop-k-test.true), no_of _ _ _ c.if-reaches.false (told c.before))
 
-returns_2 : tie.Need-returns-2 invariant_loop decreases_loop
-returns_2 c = let s = c.before.before in sym (outside_end _ _ s.args.list.now c.before.loop.k (omega (arith, c.loop-test.false))) ∙ c.before.loop.invariant.1
+returns_2 : tie.Need-returns invariant_loop decreases_loop
+returns_2 c = let s = c.before.before in sym (outside_end _ _ s.args.list.now c.loop-k.k (omega (arith, c.loop-k-test.false))) ∙ c.loop-k.invariant.1
 
 pub some_outside_spec : {M : Type 1} → statement M
 some_outside_spec =

@@ -14,46 +14,46 @@ use Rattle.matcher.proofs.write_witness.Tie as tie
 use Rattle.matcher.proofs.write_witness.Reads as reads
 use Rattle.matcher.proofs.write_witness.Lts as lts
 
-abbrev invariant_loop : tie.invariant-loop
+abbrev invariant_loop : tie.invariant-loop-i
 invariant_loop n room₀ w i₀ room i = (i ≤ n) × (room ≡ take i w ++ drop i room₀)
 
-abbrev decreases_loop : tie.decreases-loop
+abbrev decreases_loop : tie.decreases-loop-i
 decreases_loop n room₀ w i₀ room i = n - i
 
-size : (c : tie.Start invariant_loop decreases_loop) → length c.args.t1 ≡ 32
-size c = good_length (e_int w8) 32 c.args.t1 _ c.well-formed.0
+size : (c : tie.Start invariant_loop decreases_loop) → length c.args.w ≡ 32
+size c = good_length (e_int w8) 32 c.args.w _ c.well_formed.0
 
-loop_holds : tie.Need-loop-init invariant_loop decreases_loop
+loop_holds : tie.Need-loop-i-init invariant_loop decreases_loop
 loop_holds c = (omega arith, refl)
 
-array_read_room : tie.Need-array-read-room invariant_loop decreases_loop
-array_read_room c = omega (arith, c.loop-test.true, c.before.before.requires.0)
+array_read_room : tie.Need-bounds-w-i invariant_loop decreases_loop
+array_read_room c = omega (arith, c.loop-i-test.true, c.requires.0)
 
-slice_write_room : tie.Need-slice-write-room invariant_loop decreases_loop
+slice_write_room : tie.Need-bounds-room-i invariant_loop decreases_loop
 slice_write_room c =
-    let a = c.before.before.args in
-    omega (arith, ap length c.before.loop.invariant.1, copy_length a.t1 a.room.now c.before.loop.i (omega (arith, c.loop-test.true, c.before.before.requires.0, size c.before.before)) (omega (arith, c.loop-test.true, c.before.before.requires.1)), c.loop-test.true, c.before.before.requires.1)
+    let a = c.args in
+    omega (arith, ap length c.loop-i.invariant.1, copy_length a.w a.room.now c.loop-i.i (omega (arith, c.loop-i-test.true, c.requires.0, size c.before.before)) (omega (arith, c.loop-i-test.true, c.requires.1)), c.loop-i-test.true, c.requires.1)
 
-add_i : tie.Need-overflow-add-i invariant_loop decreases_loop
-add_i c = omega (arith, c.loop-test.true, c.before.before.requires.0)
+add_i : tie.Need-overflow_add-i invariant_loop decreases_loop
+add_i c = omega (arith, c.loop-i-test.true, c.requires.0)
 
-loop_less : tie.Need-loop-smaller invariant_loop decreases_loop
-loop_less c = omega (arith, c.loop-test.true)
+loop_less : tie.Need-loop-i-smaller invariant_loop decreases_loop
+loop_less c = omega (arith, c.loop-i-test.true)
 
-loop_again : tie.Need-loop-preserved invariant_loop decreases_loop
+loop_again : tie.Need-loop-i-preserved invariant_loop decreases_loop
 loop_again c =
-    let a = c.before.before.args in
-    (omega (arith, c.loop-test.true), rw (add-one, c.before.loop.invariant.1) (copy_step a.t1 a.room.now c.before.loop.i (omega (arith, c.loop-test.true, c.before.before.requires.0, size c.before.before)) (omega (arith, c.loop-test.true, c.before.before.requires.1))))
+    let a = c.args in
+    (omega (arith, c.loop-i-test.true), rw (add-one, c.loop-i.invariant.1) (copy_step a.w a.room.now c.loop-i.i (omega (arith, c.loop-i-test.true, c.requires.0, size c.before.before)) (omega (arith, c.loop-i-test.true, c.requires.1))))
 
-same_length : tie.Need-same-length invariant_loop decreases_loop
+same_length : tie.Need-shape_of-room invariant_loop decreases_loop
 same_length c =
-    let a = c.before.before.args in
-    ap length c.before.loop.invariant.1 ∙ copy_length a.t1 a.room.now c.before.loop.i (omega (arith, c.before.loop.invariant.0, c.before.before.requires.0, size c.before.before)) (omega (arith, c.before.loop.invariant.0, c.before.before.requires.1))
+    let a = c.args in
+    ap length c.loop-i.invariant.1 ∙ copy_length a.w a.room.now c.loop-i.i (omega (arith, c.loop-i.invariant.0, c.requires.0, size c.before.before)) (omega (arith, c.loop-i.invariant.0, c.requires.1))
 
 returns : tie.Need-returns invariant_loop decreases_loop
 returns c =
-    let done : c.before.loop.i ≡ c.before.before.args.n = omega (arith, c.before.loop.invariant.0, c.loop-test.false) in
-    rw done at c.before.loop.invariant.1
+    let done : c.loop-i.i ≡ c.args.n = omega (arith, c.loop-i.invariant.0, c.loop-i-test.false) in
+    rw done at c.loop-i.invariant.1
 
 pub write_witness_spec : {M : Type 1} → statement M
 write_witness_spec =

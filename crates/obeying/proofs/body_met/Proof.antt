@@ -7,41 +7,41 @@ use borrow.Author.Rules.{rules}
 use Rattle.obeying.proofs.body_met.Statement.{statement}
 use Rattle.obeying.proofs.body_met.Tie as tie
 
-none_spare_requires : tie.Need-none-spare-requires
+none_spare_requires : tie.Need-none_spare-requires
 none_spare_requires c κs = search rules
 
-returns : tie.Need-returns
-returns c = λ fam h b says spread. subset_kind _ _ h b _ _ says c.before.if1.true c.none-spare.ensures
+returns : tie.Need-returns-then-kind-ge-SUBSET
+returns c = λ fam h b says spread. subset_kind _ _ h b _ _ says c.if-kind-ge-SUBSET.true c.none_spare.ensures
 
-is_plain_requires : tie.Need-is-plain-requires
+is_plain_requires : tie.Need-is_plain-requires
 is_plain_requires c κs = search rules
 
-counts_up_requires : tie.Need-counts-up-requires
+counts_up_requires : tie.Need-counts_up-requires
 counts_up_requires c κs = search rules
 
-returns_2 : tie.Need-returns-2
+returns_2 : tie.Need-returns-then-is_plain
 returns_2 c =
     let tested = c.before.before in
     let start = tested.before.before.before.before in
-    let plain = tested.is_plain.ensures.passed c.before.if3.true in
-    λ fam h b says spread. record_kind _ _ h b _ _ _ says spread tested.before.if2.true (plain_passing any_pair _ _ plain start.requires.0 _ _ (λ i. refl) c.counts_up.ensures)
+    let plain = tested.is_plain.ensures.passed c.if-is_plain.true in
+    λ fam h b says spread. record_kind _ _ h b _ _ _ says spread tested.if-kind-eq-RECORD_OF.true (plain_passing any_pair _ _ plain start.requires.0 _ _ (λ i. refl) c.counts_up.ensures)
 
-cut_passes_requires : tie.Need-cut-passes-requires
+cut_passes_requires : tie.Need-cut_passes-requires
 cut_passes_requires c κs = search rules
 
-returns_3 : tie.Need-returns-3
-returns_3 c = λ fam h b says spread. record_kind _ _ h b _ _ _ says spread c.before.before.before.if2.true c.cut-passes.ensures
+returns_3 : tie.Need-returns-then-kind-eq-RECORD_OF
+returns_3 c = λ fam h b says spread. record_kind _ _ h b _ _ _ says spread c.if-kind-eq-RECORD_OF.true c.cut_passes.ensures
 
-block_at_requires : tie.Need-block-at-requires
+block_at_requires : tie.Need-block_at-requires
 block_at_requires c κs = search rules
 
-one_met_requires : tie.Need-one-met-requires
+one_met_requires : tie.Need-one_met-requires
 one_met_requires c κs = search rules
 
-returns_4 : tie.Need-returns-4
+returns_4 : tie.Need-returns
 returns_4 c =
     let start = c.before.before.before.before.before in
-    λ fam h b says spread. one_kind _ _ start.requires.1 _ _ c.one-met.ensures _ _ h b says spread c.before.before.before.if1.false c.before.before.if2.false (λ d q. c.before.block_at.ensures ∙ first_block start.args.count start.args.blocks.now d q)
+    λ fam h b says spread. one_kind _ _ start.requires.1 _ _ c.one_met.ensures _ _ h b says spread c.if-kind-ge-SUBSET.false c.if-kind-eq-RECORD_OF.false (λ d q. c.block_at.ensures ∙ first_block start.args.count start.args.blocks.now d q)
 
 pub body_met_spec : {M : Type 1} → statement M
 body_met_spec =

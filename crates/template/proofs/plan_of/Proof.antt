@@ -30,117 +30,117 @@ counted_one : (kind n : ℕ) → (kind ≡ 0x10 → ⊥) → block_count kind n 
 counted_one kind n e = rw (ne_eqb kind 0x10 e)
 
 -- what is known where the items are read
-front : (c : tie.Else3) → Front c.before.before.before.before.before.before.args.family c.before.before.before.before.before.before.args.t.now c.before.before.before.heads-of.result
+front : (c : tie.Else-code-ne-DONE) → Front c.args.family c.args.t.now c.heads_of-heads.result
 front c =
-    let fam = c.before.before.before.before.before.before.args.family in
-    front_of fam _ _ _ c.before.body-fault.ensures c.before.before.before.heads-of.ensures c.before.before.if2.false c.if3.false
+    let fam = c.args.family in
+    front_of fam _ _ _ c.body_fault-code.ensures c.heads_of-heads.ensures c.if-heads-ne-DONE.false c.if-code-ne-DONE.false
 
-no_plan_requires : tie.Need-no-plan-requires
+no_plan_requires : tie.Need-no_plan-requires
 no_plan_requires c κs = search rules
 
-returns : tie.Need-returns
+returns : tie.Need-returns-then-t-gt-TEMPLATE_MOST
 unfolding read_template
 returns c =
-    let a = c.before.before.before.args in
+    let a = c.args in
     let fam = a.family in
     let t = a.t.now in
-    refused_plan 2 (rw (lt-ltb 4096 _ c.before.if1.true)) (omega arith) c.no-plan.ensures
+    refused_plan 2 (rw (lt-ltb 4096 _ c.if-t-gt-TEMPLATE_MOST.true)) (omega arith) c.no_plan.ensures
 
-heads_of_requires : tie.Need-heads-of-requires
+heads_of_requires : tie.Need-heads_of-heads-requires
 heads_of_requires c κs = search rules
 
-no_plan_requires_2 : tie.Need-no-plan-requires-2
+no_plan_requires_2 : tie.Need-no_plan-requires-then-heads-ne-DONE
 no_plan_requires_2 c κs = search rules
 
-returns_2 : tie.Need-returns-2
+returns_2 : tie.Need-returns-then-heads-ne-DONE
 unfolding read_template
 returns_2 c =
     let told = c.before.before in
-    let a = c.before.before.before.before.before.args in
+    let a = c.args in
     let fam = a.family in
     let t = a.t.now in
-    refused_plan _ (read_refused t (template_here fam t) c.before.before.before.if1.false _ (heads_refused fam t _ told.heads-of.ensures c.before.if2.true)) (omega (arith, c.before.if2.true)) c.no-plan2.ensures
+    refused_plan _ (read_refused t (template_here fam t) c.if-t-gt-TEMPLATE_MOST.false _ (heads_refused fam t _ told.heads_of-heads.ensures c.if-heads-ne-DONE.true)) (omega (arith, c.if-heads-ne-DONE.true)) c.no_plan-then-heads-ne-DONE.ensures
 
-body_fault_requires : tie.Need-body-fault-requires
+body_fault_requires : tie.Need-body_fault-code-requires
 body_fault_requires c κs =
-    let fam = c.before.before.before.before.args.family in
-    heads_inside c.before.heads-of.ensures c.if2.false
+    let fam = c.args.family in
+    heads_inside c.heads_of-heads.ensures c.if-heads-ne-DONE.false
 
-no_plan_requires_3 : tie.Need-no-plan-requires-3
+no_plan_requires_3 : tie.Need-no_plan-requires-then-code-ne-DONE
 no_plan_requires_3 c κs = search rules
 
-returns_3 : tie.Need-returns-3
+returns_3 : tie.Need-returns-then-code-ne-DONE
 unfolding read_template
 returns_3 c =
     let told = c.before.before.before.before in
-    let a = c.before.before.before.before.before.before.before.args in
+    let a = c.args in
     let fam = a.family in
     let t = a.t.now in
-    refused_plan _ (read_refused t (template_here fam t) c.before.before.before.before.before.if1.false _ (body_refused fam t _ _ c.before.before.body-fault.ensures told.heads-of.ensures c.before.before.before.if2.false c.before.if3.true)) (omega (arith, c.before.if3.true)) c.no-plan3.ensures
+    refused_plan _ (read_refused t (template_here fam t) c.if-t-gt-TEMPLATE_MOST.false _ (body_refused fam t _ _ c.body_fault-code.ensures told.heads_of-heads.ensures c.if-heads-ne-DONE.false c.if-code-ne-DONE.true)) (omega (arith, c.if-code-ne-DONE.true)) c.no_plan-then-code-ne-DONE.ensures
 
-shared_slice_read_kind : tie.Need-shared-slice-read-kind
+shared_slice_read_kind : tie.Need-bounds-t-at
 shared_slice_read_kind c = let f = front c.before in omega (arith, f.fits)
 
-add_n : tie.Need-overflow-add-n
-add_n c = let f = front c.before in omega (arith, f.fits, c.before.before.before.before.before.if1.false)
+add_n : tie.Need-overflow_add-n
+add_n c = let f = front c.before in omega (arith, f.fits, c.if-t-gt-TEMPLATE_MOST.false)
 
-shared_slice_read_n : tie.Need-shared-slice-read-n
+shared_slice_read_n : tie.Need-bounds-t-at-2
 shared_slice_read_n c = let f = front c.before.before in omega (arith, f.fits)
 
-cast_n : tie.Need-overflow-cast-n
-cast_n c = omega (arith, c.shared-slice-known3.given (c.before.before.before.before.before.heads-of.result.next + 1))
+cast_n : tie.Need-overflow_cast-n
+cast_n c = omega (arith, c.shared_slice_known-3-1.given (c.heads_of-heads.result.next + 1))
 
-add_contents_end : tie.Need-overflow-add-contents-end
-add_contents_end c = let f = front c.before.before.before in omega (arith, f.fits, c.before.before.before.before.before.before.before.if1.false)
+add_contents_end : tie.Need-overflow_add-at
+add_contents_end c = let f = front c.before.before.before in omega (arith, f.fits, c.if-t-gt-TEMPLATE_MOST.false)
 
-contents_end_requires : tie.Need-contents-end-requires
+contents_end_requires : tie.Need-contents_end-end-requires
 contents_end_requires c κs =
     let f = front c.before.before.before.before.before in
-    ((f.fits, omega (arith, c.before.before.before.before.before.before.before.before.before.if1.false)), f.low, f.high, f.few, refl, refl)
+    ((f.fits, omega (arith, c.if-t-gt-TEMPLATE_MOST.false)), f.low, f.high, f.few, refl, refl)
 
-sub_no_plan : tie.Need-overflow-sub-no-plan
+sub_no_plan : tie.Need-overflow_sub-end
 sub_no_plan c = search rules
 
-cast_no_plan : tie.Need-overflow-cast-no-plan
+cast_no_plan : tie.Need-overflow_cast-end
 cast_no_plan c =
-    let a = c.before.before.before.before.before.before.before.before.before.before.before.before.before.args in
+    let a = c.args in
     let e = c.before.before.before.before.before.before.before in
     let f = front e in
-    omega (arith, contents_small a.family a.t.now _ _ _ _ _ _ _ f.reads (read_by a.family _ _ _ (front_sorted _ _ _ f) a.t.now (e.before.before.before.heads-of.result.next + 2) _ _ c.before.contents-end.result _ _ c.before.contents-end.ensures) c.before.before.before.before.before.before.before.before.before.before.before.if1.false)
+    omega (arith, contents_small a.family a.t.now _ _ _ _ _ _ _ f.reads (read_by a.family _ _ _ (front_sorted _ _ _ f) a.t.now (e.heads_of-heads.result.next + 2) _ _ c.contents_end-end.result _ _ c.contents_end-end.ensures) c.if-t-gt-TEMPLATE_MOST.false)
 
-no_plan_requires_4 : tie.Need-no-plan-requires-4
+no_plan_requires_4 : tie.Need-no_plan-requires-then-end-gt-FAULT
 no_plan_requires_4 c κs = search rules
 
-returns_4 : tie.Need-returns-4
+returns_4 : tie.Need-returns-then-end-gt-FAULT
 returns_4 c =
-    let a = c.before.before.before.before.before.before.before.before.before.before.before.before.before.before.args in
+    let a = c.args in
     let read = c.before.before in
     let e = c.before.before.before.before.before.before.before.before in
     let f = front e in
-    refused_plan _ (contents_refused a.family a.t.now _ _ _ _ _ _ _ f.reads (read_by a.family _ _ _ (front_sorted _ _ _ f) a.t.now (e.before.before.before.heads-of.result.next + 2) _ _ read.contents-end.result _ _ read.contents-end.ensures) c.before.before.before.before.before.before.before.before.before.before.before.before.if1.false c.before.if4.true) (omega (arith, c.before.if4.true)) c.no-plan4.ensures
+    refused_plan _ (contents_refused a.family a.t.now _ _ _ _ _ _ _ f.reads (read_by a.family _ _ _ (front_sorted _ _ _ f) a.t.now (e.heads_of-heads.result.next + 2) _ _ read.contents_end-end.result _ _ read.contents_end-end.ensures) c.if-t-gt-TEMPLATE_MOST.false c.if-end-gt-FAULT.true) (omega (arith, c.if-end-gt-FAULT.true)) c.no_plan-then-end-gt-FAULT.ensures
 
-no_plan_requires_5 : tie.Need-no-plan-requires-5
+no_plan_requires_5 : tie.Need-no_plan-requires-then-end-t
 no_plan_requires_5 c κs = search rules
 
-returns_5 : tie.Need-returns-5
+returns_5 : tie.Need-returns-then-end-t
 returns_5 c =
-    let a = c.before.before.before.before.before.before.before.before.before.before.before.before.before.before.before.args in
+    let a = c.args in
     let read = c.before.before.before in
     let e = c.before.before.before.before.before.before.before.before.before in
     let f = front e in
-    refused_plan 10 (contents_left_over a.family a.t.now _ _ _ _ _ _ _ f.reads (read_by a.family _ _ _ (front_sorted _ _ _ f) a.t.now (e.before.before.before.heads-of.result.next + 2) _ _ read.contents-end.result _ _ read.contents-end.ensures) c.before.before.before.before.before.before.before.before.before.before.before.before.before.if1.false c.before.before.if4.false c.before.if5.true) (omega arith) c.no-plan5.ensures
+    refused_plan 10 (contents_left_over a.family a.t.now _ _ _ _ _ _ _ f.reads (read_by a.family _ _ _ (front_sorted _ _ _ f) a.t.now (e.heads_of-heads.result.next + 2) _ _ read.contents_end-end.result _ _ read.contents_end-end.ensures) c.if-t-gt-TEMPLATE_MOST.false c.if-end-gt-FAULT.false c.if-end-t.true) (omega arith) c.no_plan-then-end-t.ensures
 
-kind_read_requires : tie.Need-kind-read-requires
+kind_read_requires : tie.Need-kind_read-requires
 kind_read_requires c κs = search rules
 
-returns_6 : tie.Need-returns-6
+returns_6 : tie.Need-returns
 returns_6 c =
-    let a = c.before.before.before.before.before.before.before.before.before.before.before.before.before.before.before.before.args in
+    let a = c.args in
     let read = c.before.before.before.before in
     let e = c.before.before.before.before.before.before.before.before.before.before in
     let f = front e in
-    let count = ⊎_elim (λ w. w.1 ∙ sym (counted_record _ _ w.0.taken)) (λ w. w.1 ∙ sym (counted_one _ _ w.0.left)) c.if6.branch in
-    contents_planned a.family a.t.now _ _ _ _ _ _ _ f.reads (read_by a.family _ _ _ (front_sorted _ _ _ f) a.t.now (e.before.before.before.heads-of.result.next + 2) _ _ read.contents-end.result _ _ read.contents-end.ensures) c.before.before.before.before.before.before.before.before.before.before.before.before.before.before.if1.false c.before.before.before.if4.false c.before.before.if5.false f.few _ _ _ _ (ap low_of f.says.attribute ∙ f.says.bounds.lower) (ap high_of f.says.attribute ∙ f.says.bounds.upper) f.says.sort count _ (λ b q. c.before.kind-read.ensures ∙ kind_read_lem f.heads e.before.before.before.heads-of.result.plain (get_or a.t.now e.before.before.before.heads-of.result.next 0) f.says.sheet b q)
+    let count = ⊎_elim (λ w. w.result-is ∙ sym (counted_record _ _ w.if-kind-eq-RECORD_OF.true)) (λ w. w.result-is ∙ sym (counted_one _ _ w.if-kind-eq-RECORD_OF.false)) c.if-kind-eq-RECORD_OF.branch-raw in
+    contents_planned a.family a.t.now _ _ _ _ _ _ _ f.reads (read_by a.family _ _ _ (front_sorted _ _ _ f) a.t.now (e.heads_of-heads.result.next + 2) _ _ read.contents_end-end.result _ _ read.contents_end-end.ensures) c.if-t-gt-TEMPLATE_MOST.false c.if-end-gt-FAULT.false c.if-end-t.false f.few _ _ _ _ (ap low_of f.says.attribute ∙ f.says.bounds.lower) (ap high_of f.says.attribute ∙ f.says.bounds.upper) f.says.sort count _ (λ b q. c.kind_read.ensures ∙ kind_read_lem f.heads e.heads_of-heads.result.plain (get_or a.t.now e.heads_of-heads.result.next 0) f.says.sheet b q)
 
 pub plan_of_spec : {M : Type 1} → statement M
 plan_of_spec =

@@ -21,11 +21,11 @@ plan_answered : (fam : Family) (t : List ℕ) (p : Plan) → PlanOf fam t p → 
 plan_answered fam t p (refused_plan number q l e) = let same : p.number ≡ number = ap (λ (x : Plan). x.number) e in rejected (q ∙ ap refuse (sym same)) (omega arith)
 plan_answered fam t p (a_plan a b q z w) = accepted (template a b) q z
 
-plan_of_requires : tie.Need-plan-of-requires
+plan_of_requires : tie.Need-plan_of-p-requires
 plan_of_requires c κs = search rules
 
 returns : tie.Need-returns
-returns c = plan_answered _ _ _ c.plan-of.ensures
+returns c = plan_answered _ _ _ c.plan_of-p.ensures
 
 pub scan_template_spec : {M : Type 1} → statement M
 scan_template_spec = tie.close (tie.spec plan_of_requires returns)

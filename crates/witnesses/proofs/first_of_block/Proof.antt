@@ -5,32 +5,32 @@ use borrow.Author.Rules.{rules}
 use Rattle.witnesses.proofs.first_of_block.Statement.{statement}
 use Rattle.witnesses.proofs.first_of_block.Tie as tie
 
-cast_least : tie.Need-overflow-cast-least
+cast_least : tie.Need-overflow_cast-least
 cast_least c = search rules
 
-cast_least_2 : tie.Need-overflow-cast-least-2
+cast_least_2 : tie.Need-overflow_cast-least-2
 cast_least_2 c = search rules
 
-add_least : tie.Need-overflow-add-least
+add_least : tie.Need-overflow_add-least
 add_least c = search rules
 
-cast_most : tie.Need-overflow-cast-most
+cast_most : tie.Need-overflow_cast-most
 cast_most c = search rules
 
-cast_most_2 : tie.Need-overflow-cast-most-2
+cast_most_2 : tie.Need-overflow_cast-most-2
 cast_most_2 c = search rules
 
-add_most : tie.Need-overflow-add-most
+add_most : tie.Need-overflow_add-most
 add_most c = search rules
 
-returns : tie.Need-returns
-returns c = other_size _ _ _ _ refl (out_of_size _ _ _ c.if1.true)
+returns : tie.Need-returns-then-size-least
+returns c = other_size _ _ _ _ refl (out_of_size _ _ _ c.if-size-least.true)
 
-first_assignment_requires : tie.Need-first-assignment-requires
+first_assignment_requires : tie.Need-first_assignment-requires
 first_assignment_requires c κs = search rules
 
-returns_2 : tie.Need-returns-2
-returns_2 c = let s = in_size _ _ _ c.before.if1.false in whole_answer_lem _ _ _ s.0 s.1 c.first-assignment.ensures
+returns_2 : tie.Need-returns
+returns_2 c = let s = in_size _ _ _ c.if-size-least.false in whole_answer_lem _ _ _ s.0 s.1 c.first_assignment.ensures
 
 pub first_of_block_spec : {M : Type 1} → statement M
 first_of_block_spec =

@@ -9,21 +9,21 @@ use Rattle.template.proofs.body.contents_end.Lts as lts
 use Rattle.template.proofs.body.items_end.Reads as items-end-reads
 use Rattle.template.proofs.body.set_end.Reads as set-end-reads
 
-items_end_requires : tie.Need-items-end-requires
+items_end_requires : tie.Need-items_end-requires
 items_end_requires c κs = search rules
 
-returns : tie.Need-returns
+returns : tie.Need-returns-then-kind-eq-RECORD_OF
 returns c =
-    let a = c.before.before.before.before.before.args in
-    record_noted (family_of a.sort) (lower_of a.sort) (upper_of a.sort) a.kind a.n a.t.now a.at _ _ _ c.before.before.before.if1.true c.items_end.ensures
+    let a = c.args in
+    record_noted (family_of a.sort) (lower_of a.sort) (upper_of a.sort) a.kind a.n a.t.now a.at _ _ _ c.if-kind-eq-RECORD_OF.true c.items_end.ensures
 
-set_end_requires : tie.Need-set-end-requires
+set_end_requires : tie.Need-set_end-requires
 set_end_requires c κs = search rules
 
-returns_2 : tie.Need-returns-2
+returns_2 : tie.Need-returns
 returns_2 c =
-    let a = c.before.before.before.before.before.args in
-    group_noted (family_of a.sort) (lower_of a.sort) (upper_of a.sort) a.kind a.n a.t.now a.at _ _ _ c.before.before.before.if1.false c.set-end.ensures
+    let a = c.args in
+    group_noted (family_of a.sort) (lower_of a.sort) (upper_of a.sort) a.kind a.n a.t.now a.at _ _ _ c.if-kind-eq-RECORD_OF.false c.set_end.ensures
 
 pub contents_end_spec : {M : Type 1} → statement M
 contents_end_spec = tie.close (tie.spec items_end_requires returns set_end_requires returns_2)

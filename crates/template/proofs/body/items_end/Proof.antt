@@ -14,65 +14,65 @@ use Rattle.template.proofs.body.items_end.Lts as lts
 use Rattle.blocks.proofs.block_of.Reads as block-of-reads
 use Rattle.items.proofs.item.item_end.Reads as item-end-reads
 
-abbrev invariant_loop : tie.invariant-loop
+abbrev invariant_loop : tie.invariant-loop-k
 invariant_loop t at n sort places₀ blocks₀ p₀ m₀ k₀ places blocks p m k = ItemsGoing (family_of sort) (lower_of sort) (upper_of sort) t at n places₀ places blocks p m k
 
-abbrev decreases_loop : tie.decreases-loop
+abbrev decreases_loop : tie.decreases-loop-k
 decreases_loop t at n sort places₀ blocks₀ p₀ m₀ k₀ places blocks p m k = n - k
 
-loop_holds : tie.Need-loop-init invariant_loop decreases_loop
+loop_holds : tie.Need-loop-k-init invariant_loop decreases_loop
 loop_holds c =
-    let w = c.before.requires in
-    let a = c.before.args in
+    let w = c.requires in
+    let a = c.args in
     items_start (family_of a.sort) (lower_of a.sort) (upper_of a.sort) a.t.now a.at a.n _ _ w.0.1 w.0.0 w.2 w.3
 
-item_end_requires : tie.Need-item-end-requires invariant_loop decreases_loop
+item_end_requires : tie.Need-item_end-p-requires invariant_loop decreases_loop
 item_end_requires c κs =
-    let g = c.before.before.before.loop.invariant in
+    let g = c.loop-k.invariant in
     ((g.inside, g.short), g.few, g.size)
 
-returns : tie.Need-returns invariant_loop decreases_loop
+returns : tie.Need-returns-then-p-gt-FAULT invariant_loop decreases_loop
 returns c =
-    items_stop c.before.before.before.before.before.loop.invariant c.before.before.before.before.loop-test.true c.before.item-end.ensures.0 (omega (arith, c.if1.true))
+    items_stop c.loop-k.invariant c.loop-k-test.true c.item_end-p.ensures.0 (omega (arith, c.if-p-gt-FAULT.true))
 
-mul_blocks : tie.Need-overflow-mul-blocks invariant_loop decreases_loop
-mul_blocks c = omega (arith, c.before.before.before.before.loop-test.true, c.before.before.before.before.before.before.before.requires.1)
+mul_blocks : tie.Need-offset_bounds-blocks-k invariant_loop decreases_loop
+mul_blocks c = omega (arith, c.loop-k-test.true, c.requires.1)
 
-element_write_blocks : tie.Need-element-write-blocks invariant_loop decreases_loop
-element_write_blocks c = omega (arith, c.before.before.before.before.loop-test.true, c.before.before.before.before.before.before.before.requires.1)
+element_write_blocks : tie.Need-bounds-blocks-k invariant_loop decreases_loop
+element_write_blocks c = omega (arith, c.loop-k-test.true, c.requires.1)
 
-block_of_requires : tie.Need-block-of-requires invariant_loop decreases_loop
+block_of_requires : tie.Need-block_of-b-requires invariant_loop decreases_loop
 block_of_requires c κs = search rules
 
-cast_m : tie.Need-overflow-cast-m invariant_loop decreases_loop
+cast_m : tie.Need-overflow_cast-m invariant_loop decreases_loop
 cast_m c = search rules
 
-add_m : tie.Need-overflow-add-m invariant_loop decreases_loop
+add_m : tie.Need-overflow_add-m invariant_loop decreases_loop
 add_m c =
-    let g = c.before.before.before.before.before.before.before.loop.invariant in
+    let g = c.loop-k.invariant in
     let few = g.few in
     search rules
 
-add_k : tie.Need-overflow-add-k invariant_loop decreases_loop
-add_k c = omega (arith, c.before.before.before.before.before.before.loop-test.true, c.before.before.before.before.before.before.before.before.before.requires.1)
+add_k : tie.Need-overflow_add-k invariant_loop decreases_loop
+add_k c = omega (arith, c.loop-k-test.true, c.requires.1)
 
-loop_less : tie.Need-loop-smaller invariant_loop decreases_loop
-loop_less c = omega (arith, c.before.before.before.before.before.before.loop-test.true)
+loop_less : tie.Need-loop-k-smaller invariant_loop decreases_loop
+loop_less c = omega (arith, c.loop-k-test.true)
 
-loop_again : tie.Need-loop-preserved invariant_loop decreases_loop
+loop_again : tie.Need-loop-k-preserved invariant_loop decreases_loop
 loop_again c =
-    let read = c.before.before.before in
+    let read = c.before.before.before.before in
     let turn = read.before.before.before.before in
-    items_more turn.loop.invariant c.before.before.before.before.before.before.loop-test.true turn.before.before.requires.1 read.item-end.ensures.1 c.before.before.if1.false read.item-end.ensures.0 _ (ap (λ (b : Block). turn.loop.m + b.k) c.before.block_of.ensures)
+    items_more turn.loop-k.invariant c.loop-k-test.true turn.requires.1 read.item_end-p.ensures.1 c.if-p-gt-FAULT.false read.item_end-p.ensures.0 _ (ap (λ (b : Block). turn.loop-k.m + b.k) c.block_of-b.ensures)
 
-mul_result : tie.Need-overflow-mul-result invariant_loop decreases_loop
-mul_result c = let g = c.before.loop.invariant in omega (arith, g.few)
+mul_result : tie.Need-overflow_mul-result invariant_loop decreases_loop
+mul_result c = let g = c.loop-k.invariant in omega (arith, g.few)
 
-add_result : tie.Need-overflow-add-result invariant_loop decreases_loop
-add_result c = let g = c.before.loop.invariant in omega (arith, g.few, g.inside, g.short)
+add_result : tie.Need-overflow_add-result invariant_loop decreases_loop
+add_result c = let g = c.loop-k.invariant in omega (arith, g.few, g.inside, g.short)
 
-returns_2 : tie.Need-returns-2 invariant_loop decreases_loop
-returns_2 c = items_end c.before.loop.invariant c.loop-test.false c.before.before.before.requires.1 _ refl
+returns_2 : tie.Need-returns invariant_loop decreases_loop
+returns_2 c = items_end c.loop-k.invariant c.loop-k-test.false c.requires.1 _ refl
 
 pub items_end_spec : {M : Type 1} → statement M
 items_end_spec =
