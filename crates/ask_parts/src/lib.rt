@@ -40,7 +40,7 @@ const ASKED_ROOM_MOST: usize = 1024;
 
 // What stands at the front of the arrays that are lent: template bytes, or the first form of a meeting and the bytes of the second, integers or
 // floats as the family says, and the bytes of the room or the witness. `lower` and `upper` are the bounds of the type of a normal form or a meeting.
-#[derive(Drop)]
+#[derive(Clone, Copy)]
 pub struct Request {
     pub kind: usize,
     pub family: usize,
