@@ -1,5 +1,5 @@
 -- Blocks as numbers: the number of a block says that block, and lists of numbers are lists of blocks, place by place. Assumes nothing.
--- block_in_number_of: a block of bytes is read back from its number. blocksIn-*: how many blocks numbers say, which, the first of them, and those of two lists.
+-- block_in_number_of: a block of bytes is read back from its number. blocks_in-*: how many blocks numbers say, which, the first of them, and those of two lists.
 use mathlib.Core.Path.{◌≡◌, refl, ap}
 use mathlib.Core.List.{List, [], ◌∷◌, ◌++◌}
 use Prim.Native.Nat.{ℕ, zero, suc, ◌<◌}

@@ -9,8 +9,8 @@ use Rattle.blocks.proofs.block_of.Reads as block-of-reads
 use Rattle.blocks.proofs.block_of.Kinds as block-of-kinds
 use Rattle.blocks.proofs.block_at.Reads as block-at-reads
 use Rattle.blocks.proofs.block_at.Kinds as block-at-kinds
-use Rattle.blocks.proofs.is_one_lem.Reads as is-one-reads
-use Rattle.blocks.proofs.is_one_lem.Kinds as is-one-kinds
+use Rattle.blocks.proofs.is_one.Reads as is-one-reads
+use Rattle.blocks.proofs.is_one.Kinds as is-one-kinds
 
 pub number_of_unique : (κs : Lfts 0) (a : Dens κs number-of-kinds.ps) (r r' : (res_t number-of-kinds.r κs).Denot) (s s' : AtExit (ended_of 0 number-of-kinds.ps number-of-kinds.r) κs)
     → number-of-reads.Post κs a r s → number-of-reads.Post κs a r' s' → r ≡ r'

@@ -3,7 +3,7 @@
 
 ghost use Rattle.std.specs.Prelude.{◌≡◌, ◌+◌, ◌*◌, ◌≤◌, length};
 ghost use Rattle.std.specs.Float.{binary64};
-ghost use Rattle.std.specs.Float.Ieee.{is_nan as isNanOf, nan_bits, of_bits};
+ghost use Rattle.std.specs.Float.Ieee.{is_nan as is_nan_of, nan_bits, of_bits};
 ghost use Rattle.floats.specs.Bytes.{float_at};
 ghost use Rattle.floats.specs.Leaves.{one_fault, bounds_fault, float_matches};
 
@@ -59,7 +59,7 @@ pub fn float_at(s: &[u8], at: usize) -> f64
 
 // Whether x is a NaN: it, and nothing else, is not equal to itself.
 fn is_nan(x: f64) -> bool
-    ensures { result ≡ isNanOf x }
+    ensures { result ≡ is_nan_of x }
 {
     x != x
 }

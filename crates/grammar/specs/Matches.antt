@@ -1,5 +1,5 @@
 -- Element templates and integers (docs/RULES.md, "When an element matches").
--- matchesBy test e x    == the element template e matches x, where `test` says which x a leaf matches
+-- matches_by test e x    == the element template e matches x, where `test` says which x a leaf matches
 -- any_matches_by test es x == at least one of es matches x
 -- leaf_matches l x       == the leaf l of the integer family matches the integer x
 -- matches e x           == the element template e matches the integer x

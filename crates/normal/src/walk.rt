@@ -2,7 +2,7 @@
 // place after what it read and, ONE_MORE for each, the ranges that stand in the arrays.
 ghost use Rattle.std.specs.Prelude.{[], ◌<◌, length};
 ghost use Rattle.ranges.specs.Shown.{view, Became};
-ghost use Rattle.ranges.specs.Spans.{Proper, join_all, gaps as gapsOf};
+ghost use Rattle.ranges.specs.Spans.{Proper, join_all, gaps as gaps_of};
 ghost use Rattle.normal.specs.Contract.{HereFrom, MembersFrom, GatheredHere, GatheredAll};
 
 use format::{COUNT_SIZE, LIST, ONE_MORE};
@@ -13,7 +13,7 @@ use sweeping::swept;
 // What the first n ranges, in any order, leave out, in their place.
 fn left_out(lo: &mut [i32], hi: &mut [i32], n: usize) -> usize
     requires { (n < length lo.old) × (n < length hi.old) × Proper (view n lo.old hi.old) }
-    ensures { Became lo.old hi.old lo.new hi.new result (gapsOf (join_all (view n lo.old hi.old) [])) }
+    ensures { Became lo.old hi.old lo.new hi.new result (gaps_of (join_all (view n lo.old hi.old) [])) }
 {
     let m = swept(lo, hi, n);
     gaps(lo, hi, m)

@@ -15,10 +15,10 @@ use Rattle.answers.proofs.give_set.Tie as tie
 
 -- the bounds, as they are handed on
 low_same : (s : tie.Start) → again s.args.lower ≡ s.args.lower
-low_same s = again_same s.args.lower s.fits.lower.sfits
+low_same s = again_same s.args.lower s.ranges.lower.sfits
 
 high_same : (s : tie.Start) → again s.args.upper ≡ s.args.upper
-high_same s = again_same s.args.upper s.fits.upper.sfits
+high_same s = again_same s.args.upper s.ranges.upper.sfits
 
 holds_requires : tie.Need-holds-requires
 holds_requires c κs = search rules

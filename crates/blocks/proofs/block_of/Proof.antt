@@ -7,16 +7,16 @@ use Rattle.blocks.proofs.block_of.Tie as tie
 use Rattle.blocks.proofs.block_of.Reads as reads
 use Rattle.blocks.proofs.block_of.Lts as lts
 
-cast_t3 : tie.Need-overflow-cast-t3
+cast_t3 : tie.Need-overflow_cast-result
 cast_t3 c = search rules
 
-cast_t6 : tie.Need-overflow-cast-t6
+cast_t6 : tie.Need-overflow_cast-result-2
 cast_t6 c = search rules
 
-cast_t9 : tie.Need-overflow-cast-t9
+cast_t9 : tie.Need-overflow_cast-result-3
 cast_t9 c = search rules
 
-cast_t12 : tie.Need-overflow-cast-t12
+cast_t12 : tie.Need-overflow_cast-result-4
 cast_t12 c = search rules
 
 returns : tie.Need-returns

@@ -10,7 +10,7 @@ use Rattle.blocks.proofs.number_of.Reads as reads
 use Rattle.blocks.proofs.number_of.Lts as lts
 use Rattle.integers.proofs.join_bytes.Reads as join-bytes-reads
 
-join_bytes_requires : tie.Need-join-bytes-requires
+join_bytes_requires : tie.Need-join_bytes-requires
 join_bytes_requires c κs = search rules
 
 returns : tie.Need-returns
@@ -21,7 +21,7 @@ returns c =
     let k : b.k < 256 = search rules in
     let min : b.min < 256 = search rules in
     let max : b.max < 256 = search rules in
-    (c.join-bytes.ensures, ap block_in c.join-bytes.ensures ∙ block_in_number_of b first k min max)
+    (c.join_bytes.ensures, ap block_in c.join_bytes.ensures ∙ block_in_number_of b first k min max)
 
 pub number_of_spec : {M : Type 1} → statement M
 number_of_spec = tie.close (tie.spec join_bytes_requires returns)

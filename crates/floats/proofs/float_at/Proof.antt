@@ -7,19 +7,19 @@ use borrow.Author.Rules.{rules}
 use Rattle.floats.proofs.float_at.Statement.{statement}
 use Rattle.floats.proofs.float_at.Tie as tie
 
-bits_at_requires : tie.Need-bits-at-requires
+bits_at_requires : tie.Need-bits_at-requires
 bits_at_requires c κs = search rules
 
-add_bits_at : tie.Need-overflow-add-bits-at
+add_bits_at : tie.Need-overflow_add-at
 add_bits_at c = search rules
 
-bits_at_requires_2 : tie.Need-bits-at-requires-2
+bits_at_requires_2 : tie.Need-bits_at-requires-2
 bits_at_requires_2 c κs = search rules
 
-join_halves_requires : tie.Need-join-halves-requires
+join_halves_requires : tie.Need-join_halves-requires
 join_halves_requires c κs = search rules
 
-from_pattern_requires : tie.Need-from-pattern-requires
+from_pattern_requires : tie.Need-from_pattern-requires
 from_pattern_requires c κs = search rules
 
 returns : tie.Need-returns
@@ -28,7 +28,7 @@ returns c =
     let at_halves = c.before in
     let at_high = at_halves.before in
     let at_low = at_high.before in
-    c.from-pattern.ensures ∙ ap (of_bits binary64) (at_halves.join-halves.ensures ∙ both_halves at_low.bits_at.ensures at_high.bits-at2.ensures)
+    c.from_pattern.ensures ∙ ap (of_bits binary64) (at_halves.join_halves.ensures ∙ both_halves at_low.bits_at.ensures at_high.bits_at-2.ensures)
 
 pub float_at_spec : {M : Type 1} → statement M
 float_at_spec =

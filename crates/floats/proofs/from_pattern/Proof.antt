@@ -21,18 +21,18 @@ zero_over_zero : div binary64 (of_bits binary64 0) (of_bits binary64 0) ≡ nan
 unfolding div of_bits
 zero_over_zero = refl
 
-is_nan_pattern_requires : tie.Need-is-nan-pattern-requires
+is_nan_pattern_requires : tie.Need-is_nan_pattern-requires
 is_nan_pattern_requires c κs = search rules
 
-returns : tie.Need-returns
+returns : tie.Need-returns-then-is_nan_pattern
 returns c =
     let u = c.before.before.args.u in
-    zero_over_zero ∙ only_nan (of_bits binary64 u) (sym (nan_bits_is binary64 u) ∙ sym c.before.is-nan-pattern.ensures ∙ c.if1.true)
+    zero_over_zero ∙ only_nan (of_bits binary64 u) (sym (nan_bits_is binary64 u) ∙ sym c.before.is_nan_pattern.ensures ∙ c.if-is_nan_pattern.true)
 
-float_from_bits_result : tie.Need-float-from-bits-result
-float_from_bits_result c = no_nan _ (sym c.before.is-nan-pattern.ensures ∙ c.if1.false)
+float_from_bits_result : tie.Need-float_from_bits-result
+float_from_bits_result c = no_nan _ (sym c.before.is_nan_pattern.ensures ∙ c.if-is_nan_pattern.false)
 
-returns_2 : tie.Need-returns-2
+returns_2 : tie.Need-returns
 returns_2 c = search rules
 
 pub from_pattern_spec : {M : Type 1} → statement M

@@ -6,28 +6,28 @@ use borrow.Author.Rules.{rules}
 use Rattle.floats.proofs.leaf_hit.Statement.{statement}
 use Rattle.floats.proofs.leaf_hit.Tie as tie
 
-enum_known_l : tie.Need-enum-known-l
+enum_known_l : tie.Need-enum_known-l
 enum_known_l c = search rules
 
-enum_known_l_2 : tie.Need-enum-known-l-2
+enum_known_l_2 : tie.Need-enum_known-l-in-Range-1
 enum_known_l_2 c = search rules
 
 within_requires : tie.Need-within-requires
 within_requires c κs = search rules
 
-enum_told : tie.Need-enum-told
+enum_told : tie.Need-enum_told-1
 enum_told c = search rules
 
-returns : tie.Need-returns
+returns : tie.Need-returns-in-Float
 unfolding float_matches
-returns c = sym (ap (λ (l : Leaf). float_matches l c.before.before.before.args.x) c.before.l.given.1)
+returns c = sym (ap (λ (l : Leaf). float_matches l c.args.x) c.in-Float.is)
 
-returns_2 : tie.Need-returns-2
-returns_2 c = c.within.ensures ∙ sym (ap (λ (l : Leaf). float_matches l c.before.before.before.before.args.x) c.before.before.l2.given.1)
+returns_2 : tie.Need-returns-in-Range
+returns_2 c = c.within.ensures ∙ sym (ap (λ (l : Leaf). float_matches l c.args.x) c.in-Range.is)
 
-returns_3 : tie.Need-returns-3
+returns_3 : tie.Need-returns-in-Any
 unfolding float_matches
-returns_3 c = sym (ap (λ (l : Leaf). float_matches l c.before.before.args.x) c.enum_told.given.1)
+returns_3 c = sym (ap (λ (l : Leaf). float_matches l c.args.x) c.in-Any.is)
 
 pub leaf_hit_spec : {M : Type 1} → statement M
 leaf_hit_spec =

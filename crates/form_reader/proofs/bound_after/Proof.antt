@@ -17,7 +17,7 @@ module _ (s : tie.Start) where
   B = s.args.b
 
   word_B : Word B
-  word_B = s.fits.b.sfits
+  word_B = s.ranges.b.sfits
 
 below_upper : (c : tie.Then1) → lt_z c.before.args.b c.before.args.upper ≡ true
 below_upper c = rw (again_same c.before.args.b c.before.ranges.b.sfits, again_same c.before.args.upper c.before.ranges.upper.sfits) at c.if1.true

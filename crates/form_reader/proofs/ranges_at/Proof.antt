@@ -41,19 +41,19 @@ module _ (a : tie.At-loop invariant_loop decreases_loop) where
   Top = start.args.upper
 
   word_low : Word Low
-  word_low = start.fits.lower.sfits
+  word_low = start.ranges.lower.sfits
 
   word_top : Word Top
-  word_top = start.fits.upper.sfits
+  word_top = start.ranges.upper.sfits
 
   abbrev Last : ℤ
   Last = num a.loop.last
 
   word_last : Word Last
-  word_last = word_num a.loop.last a.loop.inv.0
+  word_last = word_num a.loop.last a.loop.invariant.0
 
   going : Going start.args.t.now start.args.at start.args.n Low Top a.loop.lo a.loop.hi a.loop.p Last a.loop.k
-  going = rw (again_same Low word_low, again_same Top word_top) at a.loop.inv.3
+  going = rw (again_same Low word_low, again_same Top word_top) at a.loop.invariant.3
 
 record_at_requires : tie.Need-record-at-requires invariant_loop decreases_loop
 record_at_requires c κs = (going c.before).inside
@@ -85,7 +85,7 @@ returns : tie.Need-returns invariant_loop decreases_loop
 returns c =
     let i = c.before.before.before.before in
     let a = at i in
-    no_ranges refl a.loop.inv.1 a.loop.inv.2 (going_none _ _ _ _ _ _ _ _ _ _ (going a) i.before.loop-test.true _ _ _ _ i.record-at.ensures (not-true i.record-at.result.fits c.if1.true))
+    no_ranges refl a.loop.invariant.1 a.loop.invariant.2 (going_none _ _ _ _ _ _ _ _ _ _ (going a) i.before.loop-test.true _ _ _ _ i.record-at.ensures (not-true i.record-at.result.fits c.if1.true))
 
 same_length_3 : tie.Need-same-length-3 invariant_loop decreases_loop
 same_length_3 c = (at c.before.before.before.before.before).loop.invariant.1
@@ -101,7 +101,7 @@ returns_2 : tie.Need-returns-2 invariant_loop decreases_loop
 returns_2 c =
     let i = c.before.before.before.before.before in
     let a = at i in
-    no_ranges refl a.loop.inv.1 a.loop.inv.2
+    no_ranges refl a.loop.invariant.1 a.loop.invariant.2
     (going_outside _ _ _ _ _ _ _ _ _ _ (going a) i.before.loop-test.true _ _ _ _ (not-false i.record-at.result.fits c.before.if1.false) (word_A i) (word_B i) (word_last a) (word_top a) i.record-at.ensures
     (tested i true c.if2.true))
 
@@ -133,8 +133,8 @@ loop_again c =
     let b = c.bound-after in
     let e : again b.result ≡ cond (lt_z (B i) (Top a)) (B i +ℤ pos 1) (B i) = again_same b.result b.type-inv ∙ (rw (again_same (B i) (word_B i), again_same (Top a) (word_top a)) at b.ensures) in (
       bits_fit b.result b.type-inv,
-      length-set a.loop.lo a.loop.k (again (A i)) ∙ a.loop.inv.1,
-      length-set a.loop.hi a.loop.k (again (B i)) ∙ a.loop.inv.2,
+      length-set a.loop.lo a.loop.k (again (A i)) ∙ a.loop.invariant.1,
+      length-set a.loop.hi a.loop.k (again (B i)) ∙ a.loop.invariant.2,
       rw (again_same (Low a) (word_low a), again_same (Top a) (word_top a), again_same (A i) (word_A i), again_same (B i) (word_B i), e, add-one a.loop.k)
           (going_step _ _ _ _ _ _ _ _ _ _ (going a) i.before.loop-test.true _ _ _ _ (not-false i.record-at.result.fits c.before.before.if1.false) (word_A i) (word_B i) (word_last a) (word_top a) i.record-at.ensures
           (tested i false c.before.if2.false)),

@@ -23,8 +23,8 @@ module _ (c : tie.After-normalise) where
   first_told =
       let lo = start.args.lower in
       let hi = start.args.upper in
-      number_told lo hi start.fits.lower.sfits start.fits.upper.sfits _ _ _ _ _ (omega arith)
-      (rw (again_same lo start.fits.lower.sfits, again_same hi start.fits.upper.sfits) at c.normalise.ensures)
+      number_told lo hi start.ranges.lower.sfits start.ranges.upper.sfits _ _ _ _ _ (omega arith)
+      (rw (again_same lo start.ranges.lower.sfits, again_same hi start.ranges.upper.sfits) at c.normalise.ensures)
 
 returns : tie.Need-returns
 returns c = let n = c.before.before.before in fault_first _ _ _ _ _ 0 (first_told n) c.if1.true
@@ -46,8 +46,8 @@ module _ (c : tie.After-normalise2) where
       let lo = s.args.lower in
       let hi = s.args.upper in
       let size : length earlier.normalise.last.1.1.1.0 ≡ 578 = search rules in
-      number_told lo hi s.fits.lower.sfits s.fits.upper.sfits _ _ _ _ _ (omega arith)
-      (rw (again_same lo s.fits.lower.sfits, again_same hi s.fits.upper.sfits) at c.normalise2.ensures)
+      number_told lo hi s.ranges.lower.sfits s.ranges.upper.sfits _ _ _ _ _ (omega arith)
+      (rw (again_same lo s.ranges.lower.sfits, again_same hi s.ranges.upper.sfits) at c.normalise2.ensures)
 
 returns_2 : tie.Need-returns-2
 returns_2 c = let m = c.before.before.before in fault_second _ _ _ _ _ _ (first_told (earlier m)) (second_told m) m.before.before.if1.false c.if2.true

@@ -45,7 +45,7 @@ module _ (c : tie.After-cut) where
   left_is : left ≡ cut_to (start turned).args.lower (start turned).args.upper (side turned)
   left_is =
       let s = start turned in
-      rw (again_same s.args.lower s.fits.lower.sfits, again_same s.args.upper s.fits.upper.sfits) at c.cut.ensures.ranges
+      rw (again_same s.args.lower s.ranges.lower.sfits, again_same s.args.upper s.ranges.upper.sfits) at c.cut.ensures.ranges
       ∙ ap (cut_to s.args.lower s.args.upper) turned.gaps-unless.ensures.ranges
 
   left_count : length left ≡ c.cut.result

@@ -64,7 +64,7 @@ returns c =
     let s = start u in
     let lo = s.args.lower in
     let hi = s.args.upper in
-    rw (again_same lo s.fits.lower.sfits, again_same hi s.fits.upper.sfits) at g.give-met.ensures
+    rw (again_same lo s.ranges.lower.sfits, again_same hi s.ranges.upper.sfits) at g.give-met.ensures
     ∙ ap (λ (us : List Span). written_from lo hi (s.args.first.outside && s.args.second.outside) us s.args.room.now) u.not-in-both.ensures.1.ranges
 
 pub meet_spec : {M : Type 1} → statement M

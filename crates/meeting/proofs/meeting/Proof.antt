@@ -66,7 +66,7 @@ module _ (c : tie.After-read-form2) where
   H = start.args.upper
 
   in_order_lem : L ≤ℤ H
-  in_order_lem = ordered L H start.fits.lower.sfits start.fits.upper.sfits (rw (low_same start, high_same start) at earlier.before.before.before.if1.left)
+  in_order_lem = ordered L H start.ranges.lower.sfits start.ranges.upper.sfits (rw (low_same start, high_same start) at earlier.before.before.before.if1.left)
 
 fault_requires_2 : tie.Need-fault-requires-2
 fault_requires_2 c κs = search rules
@@ -83,7 +83,7 @@ returns_2 c =
     let second_read = rw (low_same s, high_same s) at w.read-form2.ensures in
     let number = rw (low_same s, high_same s) at c.before.fault2.ensures in
     rw (c.refused2.ensures.0, c.refused2.ensures.1, number)
-    (fault_is (L w) (H w) s.fits.lower.sfits s.fits.upper.sfits s.args.first.now s.args.second.now s.args.room.now
+    (fault_is (L w) (H w) s.ranges.lower.sfits s.ranges.upper.sfits s.args.first.now s.args.second.now s.args.room.now
     (λ e. not_both_forms (L w) (H w) s.args.first.now s.args.second.now (earlier w).read-form.result.normal w.read-form2.result.normal
     (read_none _ _ _ _ _ _ _ _ _ _ first_read) (read_none _ _ _ _ _ _ _ _ _ _ second_read) (not-true _ t.if2.true)))
 
@@ -107,8 +107,8 @@ meet_requires c κs =
     let first_read = rw (low_same s, high_same s) at (earlier w).read-form.ensures in
     let second_read = rw (low_same s, high_same s) at w.read-form2.ensures in
     let normal = not-false _ n.if2.false in (
-      read_held _ _ _ _ _ _ _ _ _ _ s.fits.lower.sfits first_read (and_left (earlier w).read-form.result.normal w.read-form2.result.normal normal) refl refl,
-      read_held _ _ _ _ _ _ _ _ _ _ s.fits.lower.sfits second_read (and_right (earlier w).read-form.result.normal w.read-form2.result.normal normal) refl refl,
+      read_held _ _ _ _ _ _ _ _ _ _ s.ranges.lower.sfits first_read (and_left (earlier w).read-form.result.normal w.read-form2.result.normal normal) refl refl,
+      read_held _ _ _ _ _ _ _ _ _ _ s.ranges.lower.sfits second_read (and_right (earlier w).read-form.result.normal w.read-form2.result.normal normal) refl refl,
     )
 
 same_length : tie.Need-same-length
@@ -124,7 +124,7 @@ returns_3 c =
     let second_read = rw (low_same s, high_same s) at w.read-form2.ensures in
     let normal = not-false _ n.if2.false in
     rw (low_same s, high_same s) at m.meet.ensures
-    ∙ meeting_is (L w) (H w) s.fits.lower.sfits s.fits.upper.sfits (in_order_lem w)
+    ∙ meeting_is (L w) (H w) s.ranges.lower.sfits s.ranges.upper.sfits (in_order_lem w)
     s.args.first.now (earlier w).read-form.result.outside _ (read_written _ _ _ _ _ _ _ _ _ _ first_read (and_left (earlier w).read-form.result.normal w.read-form2.result.normal normal))
     s.args.second.now w.read-form2.result.outside _ (read_written _ _ _ _ _ _ _ _ _ _ second_read (and_right (earlier w).read-form.result.normal w.read-form2.result.normal normal))
     s.args.room.now

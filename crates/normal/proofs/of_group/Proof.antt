@@ -94,7 +94,7 @@ returns c =
     let w = j.before.before.before.before.before in
     let lo = (s w).args.lower in
     let hi = (s w).args.upper in
-    rw (again_same lo (s w).fits.lower.sfits, again_same hi (s w).fits.upper.sfits) at g.give-set.ensures
+    rw (again_same lo (s w).ranges.lower.sfits, again_same hi (s w).ranges.upper.sfits) at g.give-set.ensures
     ∙ answer_form lo hi _ (s w).args.room.now (s w).pre.0 _
     (j.swept.ensures.1.ranges ∙ ap (λ (rs : List Span). join_all rs []) w.set-of.ensures.more.ranges ∙ whole_joined _ _ (plain (s w)) _ _ _ _ _ w.set-of.ensures)
 

@@ -68,7 +68,7 @@ returns c =
     let f = found l in
     let lo = (s l).args.lower in
     let hi = (s l).args.upper in
-    rw (again_same lo (s l).fits.lower.sfits, again_same hi (s l).fits.upper.sfits) at g.give-set.ensures
+    rw (again_same lo (s l).ranges.lower.sfits, again_same hi (s l).ranges.upper.sfits) at g.give-set.ensures
     ∙ answer_form lo hi _ (s l).args.room.now (s l).pre.0 _ (whole_set _ _ (plain (s l)) _ _ _ f.0 f.1)
 
 pub of_leaf_spec : {M : Type 1} → statement M

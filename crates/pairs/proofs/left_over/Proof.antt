@@ -199,7 +199,7 @@ returns_3 c fam lent es s =
     let at = c.before.before.before in
     let turn = turn_of at in
     wrong
-    (stop_miss fam es _ _ _ _ (turn.before.loop.inv.0 fam lent es s) (size turn fam lent) (low turn fam lent) (few turn fam es s)
+    (stop_miss fam es _ _ _ _ (turn.before.loop.invariant.0 fam lent es s) (size turn fam lent) (low turn fam lent) (few turn fam es s)
     (told turn (member at) _ (tested c.before) fam es s ∙ not-true _ c.if7.true)
     at.before.before.before.before.before.if1.true)
     refl

@@ -6,26 +6,26 @@ use borrow.Author.Rules.{rules}
 use Rattle.place_masks.proofs.after_spares.Statement.{statement}
 use Rattle.place_masks.proofs.after_spares.Tie as tie
 
-returns : tie.Need-returns
+returns : tie.Need-returns-then-least-gt63
 returns c = after_none _ _ (λ e l a. let n = a.near in omega arith)
 
-returns_2 : tie.Need-returns-2
+returns_2 : tie.Need-returns-then-most-least
 returns_2 c = after_none _ _ (λ e l a. let n = a.near in let f = a.far in omega arith)
 
-moved_up_requires : tie.Need-moved-up-requires
+moved_up_requires : tie.Need-moved_up-first-requires
 moved_up_requires c κs = search rules
 
-all_above_requires : tie.Need-all-above-requires
+all_above_requires : tie.Need-all_above-requires
 all_above_requires c κs = search rules
 
-returns_3 : tie.Need-returns-3
-returns_3 c = let a = c.before.before.before.before.before.args in after_moved {more = a.most - a.least} _ (omega arith) c.before.before.moved_up.ensures (c.all_above.ensures (a.most - a.least) (omega arith))
+returns_3 : tie.Need-returns-then-most-least-ge63
+returns_3 c = let a = c.before.before.before.before.before.args in after_moved {more = a.most - a.least} _ (omega arith) c.before.before.moved_up-first.ensures (c.all_above.ensures (a.most - a.least) (omega arith))
 
-spread_up_requires : tie.Need-spread-up-requires
+spread_up_requires : tie.Need-spread_up-requires
 spread_up_requires c κs = search rules
 
-returns_4 : tie.Need-returns-4
-returns_4 c = after_moved _ (omega arith) c.before.before.moved_up.ensures c.spread-up.ensures
+returns_4 : tie.Need-returns
+returns_4 c = after_moved _ (omega arith) c.before.before.moved_up-first.ensures c.spread_up.ensures
 
 pub after_spares_spec : {M : Type 1} → statement M
 after_spares_spec =

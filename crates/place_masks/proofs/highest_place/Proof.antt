@@ -6,10 +6,10 @@ use native.Mathlib.Omega.{arith}
 use Rattle.place_masks.proofs.highest_place.Statement.{statement}
 use Rattle.place_masks.proofs.highest_place.Tie as tie
 
-cast_result : tie.Need-overflow-cast-result
+cast_result : tie.Need-overflow_cast-result
 cast_result c = omega (arith, leading_le 64 c.args.places)
 
-sub_result : tie.Need-overflow-sub-result
+sub_result : tie.Need-overflow_sub-result
 sub_result c = omega (arith, leading_few 64 c.args.places c.requires c.ranges.places.fits)
 
 returns : tie.Need-returns

@@ -5,7 +5,7 @@ use native.Mathlib.Omega.{arith}
 use Rattle.place_masks.proofs.lowest_place.Statement.{statement}
 use Rattle.place_masks.proofs.lowest_place.Tie as tie
 
-cast_result : tie.Need-overflow-cast-result
+cast_result : tie.Need-overflow_cast-result
 cast_result c = omega (arith, trailing_le 64 c.args.places)
 
 returns : tie.Need-returns

@@ -4,7 +4,7 @@ use borrow.Author.Rules.{rules}
 use Rattle.place_masks.proofs.moved_down.Statement.{statement}
 use Rattle.place_masks.proofs.moved_down.Tie as tie
 
-shr_result : tie.Need-overflow-shr-result
+shr_result : tie.Need-overflow_shr-result
 shr_result c = search rules
 
 returns : tie.Need-returns

@@ -4,7 +4,7 @@ use borrow.Author.Rules.{rules}
 use Rattle.place_masks.proofs.moved_up.Statement.{statement}
 use Rattle.place_masks.proofs.moved_up.Tie as tie
 
-shl_result : tie.Need-overflow-shl-result
+shl_result : tie.Need-overflow_shl-result
 shl_result c = search rules
 
 returns : tie.Need-returns

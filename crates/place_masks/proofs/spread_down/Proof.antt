@@ -8,41 +8,41 @@ use borrow.Author.Rules.{rules}
 use Rattle.place_masks.proofs.spread_down.Statement.{statement}
 use Rattle.place_masks.proofs.spread_down.Tie as tie
 
-abbrev invariant_loop : tie.invariant-loop
+abbrev invariant_loop : tie.invariant-loop-done
 invariant_loop places more r₀ done₀ r done = (done ≤ more) × Before places 0 done r
 
-abbrev decreases_loop : tie.decreases-loop
+abbrev decreases_loop : tie.decreases-loop-done
 decreases_loop places more r₀ done₀ r done = more - done
 
-loop_holds : tie.Need-loop-init invariant_loop decreases_loop
+loop_holds : tie.Need-loop-done-init invariant_loop decreases_loop
 loop_holds c = (omega arith, before_start _)
 
-add_lesser : tie.Need-overflow-add-lesser invariant_loop decreases_loop
+add_lesser : tie.Need-overflow_add-done invariant_loop decreases_loop
 add_lesser c = omega arith
 
-sub_lesser : tie.Need-overflow-sub-lesser invariant_loop decreases_loop
+sub_lesser : tie.Need-overflow_sub-more invariant_loop decreases_loop
 sub_lesser c = omega arith
 
-lesser_requires : tie.Need-lesser-requires invariant_loop decreases_loop
+lesser_requires : tie.Need-lesser-s-requires invariant_loop decreases_loop
 lesser_requires c κs = search rules
 
-moved_down_requires : tie.Need-moved-down-requires invariant_loop decreases_loop
+moved_down_requires : tie.Need-moved_down-requires invariant_loop decreases_loop
 moved_down_requires c κs = omega arith
 
-in_either_requires : tie.Need-in-either-requires invariant_loop decreases_loop
+in_either_requires : tie.Need-in_either-r-requires invariant_loop decreases_loop
 in_either_requires c κs = search rules
 
-add_done : tie.Need-overflow-add-done invariant_loop decreases_loop
+add_done : tie.Need-overflow_add-done-in-loop-done invariant_loop decreases_loop
 add_done c = omega arith
 
-loop_less : tie.Need-loop-smaller invariant_loop decreases_loop
+loop_less : tie.Need-loop-done-smaller invariant_loop decreases_loop
 loop_less c = omega arith
 
-loop_again : tie.Need-loop-preserved invariant_loop decreases_loop
-loop_again c = let i = c.before.before.before.before.loop.invariant in let s = c.before.before.lesser.ensures in (omega arith, before_wider c.before.before.lesser.result c.before.moved_down.result (omega arith) c.before.moved_down.ensures c.in_either.ensures i.1)
+loop_again : tie.Need-loop-done-preserved invariant_loop decreases_loop
+loop_again c = let i = c.before.before.before.before.loop-done.invariant in let s = c.before.before.lesser-s.ensures in (omega arith, before_wider c.before.before.lesser-s.result c.before.moved_down.result (omega arith) c.before.moved_down.ensures c.in_either-r.ensures i.1)
 
 returns : tie.Need-returns invariant_loop decreases_loop
-returns c = let i = c.before.loop.invariant in let q : c.before.loop.done ≡ c.before.before.args.more = omega arith in rw (sym q) i.1
+returns c = let i = c.before.loop-done.invariant in let q : c.before.loop-done.done ≡ c.before.before.args.more = omega arith in rw (sym q) i.1
 
 pub spread_down_spec : {M : Type 1} → statement M
 spread_down_spec =

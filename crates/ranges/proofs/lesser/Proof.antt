@@ -7,19 +7,19 @@ use Rattle.ranges.proofs.lesser.Statement.{statement}
 use Rattle.ranges.proofs.lesser.Tie as tie
 
 same : (s : tie.Start) → lt_z (again s.args.a) (again s.args.b) ≡ lt_z s.args.a s.args.b
-same s = rw (again_same s.args.a s.fits.a.sfits, again_same s.args.b s.fits.b.sfits)
+same s = rw (again_same s.args.a s.ranges.a.sfits, again_same s.args.b s.ranges.b.sfits)
 
-returns : tie.Need-returns
+returns : tie.Need-returns-then-a-b
 returns c =
     let s = c.before in
-    let e : lt_z s.args.a s.args.b ≡ true = sym (same s) ∙ c.if1.taken in
-    rw (again_same s.args.a s.fits.a.sfits, e)
+    let e : lt_z s.args.a s.args.b ≡ true = sym (same s) ∙ c.if-a-b.taken in
+    rw (again_same s.args.a s.ranges.a.sfits, e)
 
-returns_2 : tie.Need-returns-2
+returns_2 : tie.Need-returns-else-a-b
 returns_2 c =
     let s = c.before in
-    let e : lt_z s.args.a s.args.b ≡ false = sym (same s) ∙ c.if1.left in
-    rw (again_same s.args.b s.fits.b.sfits, e)
+    let e : lt_z s.args.a s.args.b ≡ false = sym (same s) ∙ c.if-a-b.left in
+    rw (again_same s.args.b s.ranges.b.sfits, e)
 
 pub lesser_spec : {M : Type 1} → statement M
 lesser_spec = tie.close (tie.spec returns returns_2)

@@ -70,7 +70,7 @@ module _ (L : tie.At-loop invariant_loop decreases_loop) where
   sum = length start_of.args.integers.now + length start_of.args.floats.now
 
   going : Going ok sum start_of.args.count start_of.args.blocks.now L.loop.j L.loop.good L.loop.ends L.loop.rows
-  going = L.loop.inv.0 served.family served.lent who served.placed.stands
+  going = L.loop.invariant.0 served.family served.lent who served.placed.stands
 
 sub_j : tie.Need-overflow-sub-j invariant_loop decreases_loop
 sub_j c = omega (arith, c.loop-test.true)

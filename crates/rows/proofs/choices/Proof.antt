@@ -4,10 +4,10 @@ use Rattle.rows.proofs.Rows.{row_picks}
 use Rattle.rows.proofs.choices.Statement.{statement}
 use Rattle.rows.proofs.choices.Tie as tie
 
-mul_result : tie.Need-overflow-mul-result
+mul_result : tie.Need-offset_bounds-columns-m
 mul_result c = search rules
 
-element_copy_out_result : tie.Need-element-copy-out-result
+element_copy_out_result : tie.Need-bounds-columns-m
 element_copy_out_result c = search rules
 
 returns : tie.Need-returns

@@ -7,16 +7,16 @@ use Rattle.rows.proofs.width.Statement.{statement}
 use Rattle.rows.proofs.width.Tie as tie
 
 -- neither is more than the greater one
-reach : (c : tie.Joined1) → (c.before.args.end ≤ c.if1.new) × (c.before.args.to ≤ c.if1.new)
-reach c = ⊎_elim (λ w. let e = w.1 in let t = w.0.taken in (omega arith, omega arith)) (λ w. let e = w.1 in let t = w.0.left in (omega arith, omega arith)) c.if1.branch
+reach : (c : tie.Joined-end-to) → (c.before.args.end ≤ c.if-end-to.last) × (c.before.args.to ≤ c.if-end-to.last)
+reach c = ⊎_elim (λ w. let e = w.last-is in let t = w.if-end-to.true in (omega arith, omega arith)) (λ w. let e = w.last-is in let t = w.if-end-to.false in (omega arith, omega arith)) c.if-end-to.branch-raw
 
-returns : tie.Need-returns
+returns : tie.Need-returns-then-last-gt16
 returns c = let p = c.before.before.requires in record { square = inr (inr refl); members = p.0; elements = p.1 }
 
-returns_2 : tie.Need-returns-2
+returns_2 : tie.Need-returns-then-last-gt8
 returns_2 c = let r = reach c.before.before in record { square = inr (inl refl); members = omega arith; elements = omega arith }
 
-returns_3 : tie.Need-returns-3
+returns_3 : tie.Need-returns
 returns_3 c = let r = reach c.before.before in record { square = inl refl; members = omega arith; elements = omega arith }
 
 pub width_spec : {M : Type 1} → statement M

@@ -4,10 +4,10 @@ use Rattle.rows.proofs.Shifts.{lower_row}
 use Rattle.rows.proofs.exchange.lower_row.Statement.{statement}
 use Rattle.rows.proofs.exchange.lower_row.Tie as tie
 
-shr_result : tie.Need-overflow-shr-result
+shr_result : tie.Need-overflow_shr-result
 shr_result c = search rules
 
-shl_result : tie.Need-overflow-shl-result
+shl_result : tie.Need-overflow_shl-result
 shl_result c = search rules
 
 returns : tie.Need-returns

@@ -4,7 +4,7 @@ use Rattle.rows.proofs.Shifts.{upper_row}
 use Rattle.rows.proofs.exchange.upper_row.Statement.{statement}
 use Rattle.rows.proofs.exchange.upper_row.Tie as tie
 
-shr_result : tie.Need-overflow-shr-result
+shr_result : tie.Need-overflow_shr-result
 shr_result c = search rules
 
 returns : tie.Need-returns
