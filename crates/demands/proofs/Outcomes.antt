@@ -69,7 +69,7 @@ pub row_apart : (fam : Family) (n : ℕ) → RowOf fam n → 11 ≤ n → n ≤ 
 row_apart fam n row = (row_of fam n row).apart
 
 pub row_own : (fam : Family) (n : ℕ) → RowOf fam n → n ≡ 17 → ⊥
-row_own fam n row = (row_of fam n row).own_val
+row_own fam n row = (row_of fam n row).own
 
 -- where the template is short enough, its own refusal is not 2
 own_row : (fam : Family) (t : List ℕ) (n : ℕ) → length t ≤ 4096 → Refused fam t n → 2 < n

@@ -91,11 +91,11 @@ module _ (Q : ℕ → Type 0) where
       (fault_either (eqb (kind_of s) 3) (leaf_here FloatLeaf.Any (drop 1 s)) (fault 4) tt row.r4))
     where
       one : (b : Bool) → Faults Q (fault_or (cond b 14 0) (leaf_here (FloatLeaf.Float (float_at s 1)) (drop 9 s)))
-      one true = row.own_val
+      one true = row.own
       one false = tt
 
       two : (b o : Bool) → Faults Q (fault_or (cond b 14 (cond o 6 0)) (leaf_here (FloatLeaf.Range (bounds_at s 1)) (drop 17 s)))
-      two true o = row.own_val
+      two true o = row.own
       two false true = row.r6
       two false false = tt
 
@@ -106,7 +106,7 @@ module _ (Q : ℕ → Type 0) where
   typed_numbers lo hi (group c n s) own p = tt
 
   by_family : (fam : Family) (lo hi : ℤ) → Row fam Q → (s : List ℕ) → Faults Q (leaves_in fam lo hi s)
-  by_family Family.Integers lo hi row s = typed_numbers lo hi (leaf_head s) row.own_val (integer_numbers row s)
+  by_family Family.Integers lo hi row s = typed_numbers lo hi (leaf_head s) row.own (integer_numbers row s)
   by_family Family.Floats lo hi row s = float_numbers row s
 
   module _ (fam : Family) (lo hi : ℤ) (row : Row fam Q) where

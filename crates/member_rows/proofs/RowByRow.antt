@@ -101,7 +101,7 @@ marked_same before m test test' n rows same g = record {
 
 -- a 32-bit integer as the machine reads it back from its bits
 pub read_back : (x y : ℤ) → Word x → x ≡ y → to_z w32 (of_z w32 x) ≡ y
-read_back x y word e = to_z-of_z (record { sfits = word }) ∙ e
+read_back x y word e = to_z-of_z {w = w32} (record { sfits = word }) ∙ e
 
 module _ (before : List ℕ) (m : ℕ) (xs : List ℤ) (lower upper : ℤ) where
   pub within_start : length before ≡ 32 → MarkedWithin before m xs lower upper 0 before

@@ -11,7 +11,7 @@ ghost use Rattle.sorts.specs.Sorts.{word_of, lower_of, upper_of};
 use format::Family;
 use integers::{to_bits, to_signed};
 
-#[derive(Drop)]
+#[derive(Clone, Copy)]
 pub struct Sort {
     pub word: u64,
 }

@@ -35,7 +35,7 @@ module _ (c : tie.After-gaps) where
   whole = view then_start.args.n then_start.args.lo.now then_start.args.hi.now
 
   gaps_proper : Proper (view c.gaps.result c.gaps.last.0 c.gaps.last.1.0)
-  gaps_proper = subst Proper (sym c.gaps.ensures.ranges) (proper_of (gaps whole) (ascending_gaps whole then_start.pre.3))
+  gaps_proper = subst Proper (sym c.gaps.ensures.ranges) (proper_of (gaps whole) (ascending_gaps whole then_start.requires.3))
 
 cut_requires : tie.Need-cut-requires
 cut_requires c κs =
@@ -48,7 +48,7 @@ give_requires c κs =
     let k = c.before.before.before.before.before in
     let o = k.before.before.before.before.before in
     let b = k.cut.ensures in
-    (omega (arith, b.fits.0, o.gaps.ensures.size_low, (then_start o).pre.2), omega (arith, b.fits.0, b.size_low), omega (arith, b.fits.1, b.size_high))
+    (omega (arith, b.fits.0, o.gaps.ensures.size_low, (then_start o).requires.2), omega (arith, b.fits.0, b.size_low), omega (arith, b.fits.1, b.size_high))
 
 same_length : tie.Need-same-length
 same_length c = search rules
@@ -79,13 +79,13 @@ module _ (c : tie.After-cut2) where
 cut_requires_2 : tie.Need-cut-requires-2
 cut_requires_2 c κs =
     let s = c.before.before.before.before.before.before.before in
-    (omega (arith, s.pre.0), omega (arith, s.pre.1), proper_of (view s.args.n s.args.lo.now s.args.hi.now) s.pre.3)
+    (omega (arith, s.requires.0), omega (arith, s.requires.1), proper_of (view s.args.n s.args.lo.now s.args.hi.now) s.requires.3)
 
 give_requires_2 : tie.Need-give-requires-2
 give_requires_2 c κs =
     let k = c.before.before.before.before.before in
     let b = k.cut2.ensures in
-    (omega (arith, b.fits.0, (else_start k).pre.2), omega (arith, b.fits.0, b.size_low), omega (arith, b.fits.1, b.size_high))
+    (omega (arith, b.fits.0, (else_start k).requires.2), omega (arith, b.fits.0, b.size_low), omega (arith, b.fits.1, b.size_high))
 
 same_length_4 : tie.Need-same-length-4
 same_length_4 c = search rules

@@ -230,7 +230,7 @@ pub +any-of-none-of-spec : {M : Type 1} → statement M
     (leaf_again t)
     -- a list: sub-more-3, add-more, shared-slice-read-more, cast-more, add-more-2, add_p_2, loop_less_3, loop_again_3
     (λ c. c.before.before.before.loop-test.true)
-    (λ c. omega (arith, (on_list t c.before.before.before c.if3.true).fits, (start_of t c.before.before.before).pre.1.short))
+    (λ c. omega (arith, (on_list t c.before.before.before c.if3.true).fits, (start_of t c.before.before.before).requires.1.short))
     (λ c. omega (arith, (on_list t c.before.before.before.before c.before.if3.true).fits))
     (λ c. omega (arith, c.shared-slice-known4.given (c.before.before.before.before.before.loop.p + 1)))
     (list_counted t)
@@ -258,7 +258,7 @@ pub +any-of-none-of-spec : {M : Type 1} → statement M
     let turn = c.before.before.before.before.before in
     let i = on_complement t turn (complement_here t c.before) in
     let s = start_of t turn in
-    (omega (arith, s.pre.0, i.deep), record { family = family_of t turn; members = i.members; short = s.pre.1.short; among = turn.before.loop.invariant.among }))
+    (omega (arith, s.requires.0, i.deep), record { family = family_of t turn; members = i.members; short = s.requires.1.short; among = turn.before.loop.invariant.among }))
     (λ c κs. tt)
     (λ c κs. tt)
     (λ c. c.before.before.before.before.before.before.before.before.loop-test.true)

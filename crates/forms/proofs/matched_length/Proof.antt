@@ -21,11 +21,11 @@ abbrev all : tie.Start → List Span
 all c = view c.args.n c.args.lo.now c.args.hi.now
 
 size : (c : tie.Start) → length (all c) ≡ c.args.n
-size c = length_view _ _ _ c.pre.1 c.pre.2
+size c = length_view _ _ _ c.requires.1 c.requires.2
 
 -- the only range
 alone : (c : tie.Start) → c.args.n ≡ 1 → all c ≡ span (get_or c.args.lo.now 0 (pos 0)) (get_or c.args.hi.now 0 (pos 0)) ∷ []
-alone c e = view_one _ _ _ e c.pre.1 c.pre.2
+alone c e = view_one _ _ _ e c.requires.1 c.requires.2
 
 add_result : tie.Need-add-result
 add_result c = search rules

@@ -22,10 +22,10 @@ abbrev all : tie.Start → List Span
 all c = view c.args.n c.args.lo.now c.args.hi.now
 
 put_unmatched_requires : tie.Need-put-unmatched-requires
-put_unmatched_requires c κs = (c.before.before.before.pre.0, side_room _ true (all c.before.before.before) _ c.before.if1.taken c.before.before.before.pre.1)
+put_unmatched_requires c κs = (c.before.before.before.requires.0, side_room _ true (all c.before.before.before) _ c.before.if1.taken c.before.before.before.requires.1)
 
 put_matched_requires : tie.Need-put-matched-requires
-put_matched_requires c κs = (c.before.before.before.pre.0, side_room _ false (all c.before.before.before) _ c.before.if1.left c.before.before.before.pre.1)
+put_matched_requires c κs = (c.before.before.before.requires.0, side_room _ false (all c.before.before.before) _ c.before.if1.left c.before.before.before.requires.1)
 
 same_length : tie.Need-same-length
 same_length c = search rules

@@ -20,28 +20,28 @@ cast_out c = search rules
 
 -- after the two bytes
 first : (c : tie.Start) → Put c.args.out.now (set c.args.out.now 0 c.args.kind) (c.args.kind ∷ []) 1
-first c = put_byte c.args.out.now c.args.out.now [] 0 (put_none c.args.out.now) c.args.kind (omega (arith, c.pre.1))
+first c = put_byte c.args.out.now c.args.out.now [] 0 (put_none c.args.out.now) c.args.kind (omega (arith, c.requires.1))
 
 abbrev header : tie.Start → List ℕ
 header c = set (set c.args.out.now 0 c.args.kind) 1 c.args.n
 
 begun : (c : tie.Start) → Put c.args.out.now (header c) (c.args.kind ∷ c.args.n ∷ []) 2
-begun c = put_byte c.args.out.now _ _ 1 (first c) c.args.n (omega (arith, c.pre.1))
+begun c = put_byte c.args.out.now _ _ 1 (first c) c.args.n (omega (arith, c.requires.1))
 
 slice_write_out_2 : tie.Need-slice-write-out-2
-slice_write_out_2 c = omega (arith, put_length _ _ _ _ (first c.before), c.before.pre.1)
+slice_write_out_2 c = omega (arith, put_length _ _ _ _ (first c.before), c.before.requires.1)
 
 sub_put_records : tie.Need-sub-put-records
-sub_put_records c = omega (arith, put_length _ _ _ _ (begun c.before), c.before.pre.1)
+sub_put_records c = omega (arith, put_length _ _ _ _ (begun c.before), c.before.requires.1)
 
 part_put_records_start : tie.Need-part-put-records-start
-part_put_records_start c = omega (arith, put_length _ _ _ _ (begun c.before), c.before.pre.1)
+part_put_records_start c = omega (arith, put_length _ _ _ _ (begun c.before), c.before.requires.1)
 
 part_put_records_end : tie.Need-part-put-records-end
 part_put_records_end c = search rules
 
 put_records_requires : tie.Need-put-records-requires
-put_records_requires c κs = (c.before.before.pre.0, omega (arith, lent_length _ _ _ _ (begun c.before.before), c.before.before.pre.1))
+put_records_requires c κs = (c.before.before.requires.0, omega (arith, lent_length _ _ _ _ (begun c.before.before), c.before.before.requires.1))
 
 -- after the records
 written : (c : tie.After-slice-known2) →
@@ -50,7 +50,7 @@ written : (c : tie.After-slice-known2) →
     ((s.args.kind ∷ s.args.n ∷ []) ++ records (view s.args.n s.args.lo.now s.args.hi.now)) (2 + records_length (view s.args.n s.args.lo.now s.args.hi.now))
 written c =
     let s = c.before.before.before.before.before in
-    put_more s.args.out.now (header s) _ 2 (begun s) (records (view s.args.n s.args.lo.now s.args.hi.now)) _ (records_length (view s.args.n s.args.lo.now s.args.hi.now)) (length_records (view s.args.n s.args.lo.now s.args.hi.now)) s.pre.1
+    put_more s.args.out.now (header s) _ 2 (begun s) (records (view s.args.n s.args.lo.now s.args.hi.now)) _ (records_length (view s.args.n s.args.lo.now s.args.hi.now)) (length_records (view s.args.n s.args.lo.now s.args.hi.now)) s.requires.1
     c.before.before.put-records.ensures
 
 same_length : tie.Need-same-length

@@ -24,7 +24,7 @@ module _ (c : tie.Start) where
 
   -- as many ranges as are counted
   size : length s ≡ n
-  size = length_view _ _ _ c.pre.0.1 c.pre.0.2
+  size = length_view _ _ _ c.requires.0.1 c.requires.0.2
 
   none_there : n ≡ 0 → s ≡ []
   none_there e = view_none _ _ _ e
@@ -36,7 +36,7 @@ module _ (c : tie.Start) where
   b = get_or c.args.hi.now 0 (pos 0)
 
   one_there : n ≡ 1 → (matched_length s ≡ record_length (span a b)) × (matched_form s ≡ record_of (span a b))
-  one_there e = matched_one s (span a b) (view_one _ _ _ e c.pre.0.1 c.pre.0.2)
+  one_there e = matched_one s (span a b) (view_one _ _ _ e c.requires.0.1 c.requires.0.2)
 
   more_there : (n ≡ 0 → ⊥) → (n ≡ 1 → ⊥) → (matched_length s ≡ 2 + records_length s) × (matched_form s ≡ 0x04 ∷ n ∷ records s)
   more_there z o =
@@ -46,7 +46,7 @@ module _ (c : tie.Start) where
 put_nothing_requires : tie.Need-put-nothing-requires
 put_nothing_requires c κs =
     let u = c.before.before.before in
-    omega (arith, u.pre.1, (matched_none (s u) (none_there u c.before.if1.taken)).0)
+    omega (arith, u.requires.1, (matched_none (s u) (none_there u c.before.if1.taken)).0)
 
 shared_slice_copy_out_a : tie.Need-shared-slice-copy-out-a
 shared_slice_copy_out_a c = search rules
@@ -57,12 +57,12 @@ shared_slice_copy_out_b c = search rules
 put_record_requires : tie.Need-put-record-requires
 put_record_requires c κs =
     let u = c.before.before.before.before.before.before in
-    rw (again_same (a u) c.before.before.a.given, again_same (b u) c.before.b.given) (omega (arith, u.pre.1, (one_there u c.before.before.before.if2.taken).0))
+    rw (again_same (a u) c.before.before.a.given, again_same (b u) c.before.b.given) (omega (arith, u.requires.1, (one_there u c.before.before.before.if2.taken).0))
 
 put_group_requires : tie.Need-put-group-requires
 put_group_requires c κs =
     let u = c.before.before.before.before in
-    (u.pre.0, omega (arith, u.pre.1, (more_there u c.before.before.if1.left c.before.if2.left).0))
+    (u.requires.0, omega (arith, u.requires.1, (more_there u c.before.before.if1.left c.before.if2.left).0))
 
 same_length : tie.Need-same-length
 same_length c = search rules

@@ -23,7 +23,7 @@ module _ (c : tie.Start) where
 
   -- as many ranges as are counted
   size : length s ≡ n
-  size = length_view _ _ _ c.pre.0.1 c.pre.0.2
+  size = length_view _ _ _ c.requires.0.1 c.requires.0.2
 
   none_there : n ≡ 0 → s ≡ []
   none_there e = view_none _ _ _ e
@@ -39,7 +39,7 @@ module _ (c : tie.Start) where
 room_there : (c : tie.Then1) → 0 < length c.before.before.args.out.now
 room_there c =
     let u = c.before.before in
-    omega (arith, u.pre.1, (unmatched_none (s u) (none_there u c.if1.taken)).0)
+    omega (arith, u.requires.1, (unmatched_none (s u) (none_there u c.if1.taken)).0)
 
 slice_write_out : tie.Need-slice-write-out
 slice_write_out c = room_there c
@@ -47,7 +47,7 @@ slice_write_out c = room_there c
 put_group_requires : tie.Need-put-group-requires
 put_group_requires c κs =
     let u = c.before.before.before in
-    (u.pre.0, omega (arith, u.pre.1, (some_there u c.before.if1.left).0))
+    (u.requires.0, omega (arith, u.requires.1, (some_there u c.before.if1.left).0))
 
 same_length : tie.Need-same-length
 same_length c = search rules

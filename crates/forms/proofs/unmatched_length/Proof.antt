@@ -18,7 +18,7 @@ abbrev all : tie.Start → List Span
 all c = view c.args.n c.args.lo.now c.args.hi.now
 
 size : (c : tie.Start) → length (all c) ≡ c.args.n
-size c = length_view _ _ _ c.pre.1 c.pre.2
+size c = length_view _ _ _ c.requires.1 c.requires.2
 
 returns : tie.Need-returns
 returns c =

@@ -22,10 +22,10 @@ module _ (s : tie.Start) where
   at = s.args.at
 
   fits : at + 9 ≤ length bytes
-  fits = one_fits bytes at s.pre
+  fits = one_fits bytes at s.requires
 
   both_fit : (get_or bytes at 0 ≡ 6 → ⊥) → at + 17 ≤ length bytes
-  both_fit other = two_fit bytes at s.pre other
+  both_fit other = two_fit bytes at s.requires other
 
 the_bounds : (bytes : List ℕ) (at : ℕ) (lower upper : Float) → lower ≡ float_at bytes (at + 1) → upper ≡ float_at bytes (at + 9) → Leaf.Range (record { lower = lower; upper = upper }) ≡ Leaf.Range (bounds_at bytes (at + 1))
 the_bounds bytes at lower upper e d =
@@ -35,31 +35,31 @@ the_bounds bytes at lower upper e d =
     made : Float → Float → Bounds
     made a b = record { lower = a; upper = b }
 
-add_float_at : tie.Need-overflow-add-float-at
+add_float_at : tie.Need-overflow_add-at
 add_float_at c = omega (arith, fits c.before)
 
-float_at_requires : tie.Need-float-at-requires
+float_at_requires : tie.Need-float_at-lower-requires
 float_at_requires c κs = omega (arith, fits c.before)
 
-shared_slice_read_if1 : tie.Need-shared-slice-read-if1
+shared_slice_read_if1 : tie.Need-bounds-t-at
 shared_slice_read_if1 c = omega (arith, fits c.before.before.before)
 
-returns : tie.Need-returns
+returns : tie.Need-returns-then-t-at-eq-FLOAT
 returns c =
     let s = c.before.before.before.before in
-    one_is (bytes s) (at s) _ c.if1.true (ap Leaf.Float c.before.before.float-at.ensures)
+    one_is (bytes s) (at s) _ c.if-t-at-eq-FLOAT.true (ap Leaf.Float c.before.before.float_at-lower.ensures)
 
-add_float_at_2 : tie.Need-overflow-add-float-at-2
-add_float_at_2 c = let s = c.before.before.before.before in omega (arith, both_fit s c.if1.false)
+add_float_at_2 : tie.Need-overflow_add-at-2
+add_float_at_2 c = let s = c.before.before.before.before in omega (arith, both_fit s c.if-t-at-eq-FLOAT.false)
 
-float_at_requires_2 : tie.Need-float-at-requires-2
-float_at_requires_2 c κs = let s = c.before.before.before.before in omega (arith, both_fit s c.if1.false)
+float_at_requires_2 : tie.Need-float_at-upper-requires
+float_at_requires_2 c κs = let s = c.before.before.before.before in omega (arith, both_fit s c.if-t-at-eq-FLOAT.false)
 
-returns_2 : tie.Need-returns-2
+returns_2 : tie.Need-returns
 returns_2 c =
     let s = c.before.before.before.before.before in
-    let first = c.before.before.before.float-at.ensures in
-    range_is (bytes s) (at s) _ s.requires.kind c.before.if1.false (the_bounds (bytes s) (at s) _ _ first c.float-at2.ensures)
+    let first = c.before.before.before.float_at-lower.ensures in
+    range_is (bytes s) (at s) _ s.requires.kind c.before.if-t-at-eq-FLOAT.false (the_bounds (bytes s) (at s) _ _ first c.float_at-upper.ensures)
 
 pub float_leaf_at_spec : {M : Type 1} → statement M
 float_leaf_at_spec =

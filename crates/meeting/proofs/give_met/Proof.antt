@@ -26,7 +26,7 @@ module _ (c : tie.After-gaps-unless) where
   side = gaps_unless start.args.outside (view start.args.u start.args.lo.now start.args.hi.now)
 
   side_proper : Proper (view c.gaps-unless.result c.gaps-unless.last.1.0 c.gaps-unless.last.1.1.0)
-  side_proper = subst Proper (sym c.gaps-unless.ensures.ranges) (proper_of side (ascending_unless start.args.outside _ start.pre.3))
+  side_proper = subst Proper (sym c.gaps-unless.ensures.ranges) (proper_of side (ascending_unless start.args.outside _ start.requires.3))
 
 cut_requires : tie.Need-cut-requires
 cut_requires c κs =

@@ -20,7 +20,7 @@ slice_aggregate_not_in_both_2 c = search rules
 not_in_both_requires : tie.Need-not-in-both-requires
 not_in_both_requires c κs =
     let s = c.before.before.before.before.before.before.before in
-    (s.pre.0, s.pre.1, omega arith, omega arith)
+    (s.requires.0, s.requires.1, omega arith, omega arith)
 
 abbrev start : tie.After-not-in-both → tie.Start
 start c = c.before.before.before.before.before.before.before.before
@@ -39,7 +39,7 @@ give_met_requires c κs =
       omega (arith, b.0, b.1.size_low),
       omega (arith, b.0, b.1.size_high),
       omega (arith, b.1.size_low),
-      subst Ascending (sym b.1.ranges) (ascending_not_in_both s.args.first.outside _ s.args.second.outside _ s.pre.0.ascending s.pre.1.ascending),
+      subst Ascending (sym b.1.ranges) (ascending_not_in_both s.args.first.outside _ s.args.second.outside _ s.requires.0.ascending s.requires.1.ascending),
     )
 
 same_length : tie.Need-same-length

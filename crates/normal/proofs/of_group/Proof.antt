@@ -25,13 +25,13 @@ slice_aggregate_set_of_2 : tie.Need-slice-aggregate-set-of-2
 slice_aggregate_set_of_2 c = search rules
 
 -- without a type the bytes are read the same
-plain : (s : tie.Start) → read_element leaf_head s.args.template.now ≡ got s.pre.0.what []
-plain s = accepted_plain _ _ _ s.pre.0
+plain : (s : tie.Start) → read_element leaf_head s.args.template.now ≡ got s.requires.0.what []
+plain s = accepted_plain _ _ _ s.requires.0
 
 set_of_requires : tie.Need-set-of-requires
 set_of_requires c κs =
     let s = c.before.before.before.before in
-    whole_from _ _ (plain s) _ _ refl refl s.pre.1
+    whole_from _ _ (plain s) _ _ refl refl s.requires.1
 
 slice_aggregate_swept : tie.Need-slice-aggregate-swept
 slice_aggregate_swept c = search rules
@@ -95,7 +95,7 @@ returns c =
     let lo = (s w).args.lower in
     let hi = (s w).args.upper in
     rw (again_same lo (s w).ranges.lower.sfits, again_same hi (s w).ranges.upper.sfits) at g.give-set.ensures
-    ∙ answer_form lo hi _ (s w).args.room.now (s w).pre.0 _
+    ∙ answer_form lo hi _ (s w).args.room.now (s w).requires.0 _
     (j.swept.ensures.1.ranges ∙ ap (λ (rs : List Span). join_all rs []) w.set-of.ensures.more.ranges ∙ whole_joined _ _ (plain (s w)) _ _ _ _ _ w.set-of.ensures)
 
 pub of_group_spec : {M : Type 1} → statement M

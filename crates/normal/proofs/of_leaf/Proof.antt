@@ -18,12 +18,12 @@ use Rattle.normal.proofs.of_leaf.Statement.{statement}
 use Rattle.normal.proofs.of_leaf.Tie as tie
 
 -- without a type the bytes are read the same
-plain : (s : tie.Start) → read_element leaf_head s.args.template.now ≡ got s.pre.0.what []
-plain s = accepted_plain _ _ _ s.pre.0
+plain : (s : tie.Start) → read_element leaf_head s.args.template.now ≡ got s.requires.0.what []
+plain s = accepted_plain _ _ _ s.requires.0
 
 -- the bytes are a leaf
 there : (s : tie.Start) → LeafHere s.args.template.now 0
-there s = leaf_there _ 0 8 (whole_here _ _ (plain s)) s.pre.1
+there s = leaf_there _ 0 8 (whole_here _ _ (plain s)) s.requires.1
 
 bounds_at_requires : tie.Need-bounds-at-requires
 bounds_at_requires c κs = there c.before.before
@@ -47,7 +47,7 @@ module _ (c : tie.After-bounds-at) where
 
   found : Ascending (span (again a) (again b) ∷ [])
       × HereSet s.args.template.now 0 8 (holds (span (again a) (again b) ∷ [])) (weight (span (again a) (again b) ∷ [])) c.bounds-at.result.next
-  found = rw (again_same a word_a, again_same b word_b) (leaf_here_set _ 0 8 (span a b ∷ []) a b _ refl (there s) s.pre.1 c.bounds-at.ensures)
+  found = rw (again_same a word_a, again_same b word_b) (leaf_here_set _ 0 8 (span a b ∷ []) a b _ refl (there s) s.requires.1 c.bounds-at.ensures)
 
 slice_aggregate_give_set : tie.Need-slice-aggregate-give-set
 slice_aggregate_give_set c = search rules
@@ -69,7 +69,7 @@ returns c =
     let lo = (s l).args.lower in
     let hi = (s l).args.upper in
     rw (again_same lo (s l).ranges.lower.sfits, again_same hi (s l).ranges.upper.sfits) at g.give-set.ensures
-    ∙ answer_form lo hi _ (s l).args.room.now (s l).pre.0 _ (whole_set _ _ (plain (s l)) _ _ _ f.0 f.1)
+    ∙ answer_form lo hi _ (s l).args.room.now (s l).requires.0 _ (whole_set _ _ (plain (s l)) _ _ _ f.0 f.1)
 
 pub of_leaf_spec : {M : Type 1} → statement M
 of_leaf_spec =

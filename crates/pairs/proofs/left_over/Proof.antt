@@ -50,7 +50,7 @@ module _ (c : tie.In-loop invariant_loop decreases_loop) where
   start_of = c.before.before.before.before.before.before
 
   abbrev served : Served start_of.args.t.now start_of.args.places.now start_of.args.members start_of.args.integers.now start_of.args.floats.now
-  served = start_of.pre.0
+  served = start_of.requires.0
 
   abbrev Listed : Family → Type 0
   Listed fam = Lent fam start_of.args.integers.now start_of.args.floats.now
@@ -60,7 +60,7 @@ module _ (c : tie.In-loop invariant_loop decreases_loop) where
 
   -- a byte for each element
   size : (fam : Family) → Listed fam → length start_of.args.w.now ≡ length (list_of fam start_of.args.integers.now start_of.args.floats.now)
-  size fam lent = start_of.pre.1 ∙ sym (lent_size fam _ _ lent)
+  size fam lent = start_of.requires.1 ∙ sym (lent_size fam _ _ lent)
 
   low : (fam : Family) → Listed fam → c.before.loop.e < length (list_of fam start_of.args.integers.now start_of.args.floats.now)
   low fam lent = omega (arith, c.loop-test.true, size fam lent)

@@ -66,19 +66,19 @@ highest_place_requires : tie.Need-highest-place-requires
 highest_place_requires c κs = bit_pos _ _ (ahead c)
 
 cast_first_assignment : tie.Need-overflow-cast-first-assignment
-cast_first_assignment c = let s = start c in let a = s.pre.2 in let n = a.near in let l = s.pre.1 a.place a.here in omega arith
+cast_first_assignment c = let s = start c in let a = s.requires.2 in let n = a.near in let l = s.requires.1 a.place a.here in omega arith
 
 cast_first_assignment_2 : tie.Need-overflow-cast-first-assignment-2
-cast_first_assignment_2 c = let s = start c in let l = s.pre.1 _ (reached c).here in omega arith
+cast_first_assignment_2 c = let s = start c in let l = s.requires.1 _ (reached c).here in omega arith
 
 first_assignment_requires : tie.Need-first-assignment-requires
-first_assignment_requires c κs = let s = start c in (s.pre.0, order c, s.pre.1 _ (reached c).here)
+first_assignment_requires c κs = let s = start c in (s.requires.0, order c, s.requires.1 _ (reached c).here)
 
 returns : tie.Need-returns
-returns c = let x = c.before.before.before in let s = start x in led_none s.pre.0 s.pre.1 (reached x) c.before.before.first-assignment.ensures (not-true _ c.if1.true)
+returns c = let x = c.before.before.before in let s = start x in led_none s.requires.0 s.requires.1 (reached x) c.before.before.first-assignment.ensures (not-true _ c.if1.true)
 
 after_last_requires : tie.Need-after-last-requires
-after_last_requires c κs = let x = c.before.before.before.before.before in let s = start x in (order x, s.pre.1 _ (reached x).here)
+after_last_requires c κs = let x = c.before.before.before.before.before in let s = start x in (order x, s.requires.1 _ (reached x).here)
 
 from_on_requires : tie.Need-from-on-requires
 from_on_requires c κs = search rules
@@ -94,7 +94,7 @@ returns_2 c =
     let found = c.before.before.before.before.before.before in
     let x = found.before.before.before in
     let s = start x in
-    led_found s.pre.0 s.pre.1 (reached x) c.before.before.from_on.result c.before.before_spares.result found.before.before.first-assignment.ensures (not-false _ found.if1.false) (enough x)
+    led_found s.requires.0 s.requires.1 (reached x) c.before.before.from_on.result c.before.before_spares.result found.before.before.first-assignment.ensures (not-false _ found.if1.false) (enough x)
     c.before.before.before.after_last.ensures c.before.before.from_on.ensures c.before.before_spares.ensures c.up-to2.ensures
 
 pub led_from_spec : {M : Type 1} → statement M

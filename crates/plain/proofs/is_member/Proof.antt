@@ -4,10 +4,10 @@ use Rattle.plain.proofs.Numbers.{member_number}
 use Rattle.plain.proofs.is_member.Statement.{statement}
 use Rattle.plain.proofs.is_member.Tie as tie
 
-cast_result : tie.Need-overflow-cast-result
+cast_result : tie.Need-overflow_cast-result
 cast_result c = omega (arith, c.requires)
 
-add_result : tie.Need-overflow-add-result
+add_result : tie.Need-overflow_add-result
 add_result c = omega (arith, c.requires)
 
 returns : tie.Need-returns

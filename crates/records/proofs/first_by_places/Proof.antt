@@ -58,7 +58,7 @@ module _ (L : tie.At-loop invariant_loop decreases_loop) where
   start_of = L.before.before.before.before.before.before.before
 
   abbrev served : Served start_of.args.t.now start_of.args.places.now start_of.args.members start_of.args.integers.now start_of.args.floats.now
-  served = start_of.pre.0
+  served = start_of.requires.0
 
   abbrev who : List (Elem (LeafOf served.family))
   who = served.placed.who
@@ -76,13 +76,13 @@ sub_j : tie.Need-overflow-sub-j invariant_loop decreases_loop
 sub_j c = omega (arith, c.loop-test.true)
 
 mul_ends : tie.Need-overflow-mul-ends invariant_loop decreases_loop
-mul_ends c = omega (arith, c.loop-test.true, c.before.loop.invariant.2, (start_of c.before).pre.1)
+mul_ends c = omega (arith, c.loop-test.true, c.before.loop.invariant.2, (start_of c.before).requires.1)
 
 array_write_ends : tie.Need-array-write-ends invariant_loop decreases_loop
-array_write_ends c = omega (arith, c.loop-test.true, c.before.loop.invariant.2, (start_of c.before).pre.1)
+array_write_ends c = omega (arith, c.loop-test.true, c.before.loop.invariant.2, (start_of c.before).requires.1)
 
 block_at_requires_2 : tie.Need-block-at-requires-2 invariant_loop decreases_loop
-block_at_requires_2 c κs = omega (arith, c.loop-test.true, c.before.loop.invariant.2, (start_of c.before).pre.1)
+block_at_requires_2 c κs = omega (arith, c.loop-test.true, c.before.loop.invariant.2, (start_of c.before).requires.1)
 
 before_block_requires : tie.Need-before-block-requires invariant_loop decreases_loop
 before_block_requires c κs =
@@ -91,7 +91,7 @@ before_block_requires c κs =
     let low = c.before.before.before.loop-test.true in
     let i = L.loop.j - 1 in
     let inside : i < start.args.count = omega (arith, low, L.loop.invariant.2) in
-    (served L, L.before.before.before.before.widened.ensures, (going L).gone.size, rw c.before.before.block-at2.ensures (below_at _ _ _ i inside start.pre.2), ways_low (going L).ways)
+    (served L, L.before.before.before.before.widened.ensures, (going L).gone.size, rw c.before.before.block-at2.ensures (below_at _ _ _ i inside start.requires.2), ways_low (going L).ways)
 
 loop_less : tie.Need-loop-smaller invariant_loop decreases_loop
 loop_less c = omega (arith, c.before.before.before.before.loop-test.true)

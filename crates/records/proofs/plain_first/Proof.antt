@@ -47,10 +47,10 @@ module _ (c : tie.In-loop invariant_loop decreases_loop) where
   start_of = c.before.before.before.before.before
 
   abbrev served : Served start_of.args.t.now start_of.args.places.now start_of.args.members start_of.args.integers.now start_of.args.floats.now
-  served = start_of.pre.0
+  served = start_of.requires.0
 
   member : c.before.loop.e < start_of.args.members
-  member = omega (arith, c.loop-test.true, c.before.before.if1.false, start_of.pre.1)
+  member = omega (arith, c.loop-test.true, c.before.before.if1.false, start_of.requires.1)
 
   short : c.before.loop.e < 32
   short = omega (arith, member, served.placed.few)

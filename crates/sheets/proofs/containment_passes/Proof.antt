@@ -35,14 +35,14 @@ module _ (c : tie.In-loop invariant_loop decreases_loop) where
   start_of = c.before.before.before.before.before
 
   abbrev served : Served start_of.args.t.now start_of.args.places.now start_of.args.members start_of.args.integers.now start_of.args.floats.now
-  served = start_of.pre.0
+  served = start_of.requires.0
 
   abbrev member_of : ℕ
   member_of = get_or start_of.args.w.now c.before.loop.e 0
 
   -- its element is one of the list, and the list is short
   low : c.before.loop.e < length (list_of served.family start_of.args.integers.now start_of.args.floats.now)
-  low = omega (arith, c.loop-test.true, start_of.pre.1, lent_size served.family _ _ served.lent)
+  low = omega (arith, c.loop-test.true, start_of.requires.1, lent_size served.family _ _ served.lent)
 
   short : c.before.loop.e < 32
   short = omega (arith, low, served.few)

@@ -4,52 +4,52 @@ use Rattle.stream.proofs.Lists.{listed_faulty, listed_fits, listed_few, listed_r
 use Rattle.stream.proofs.read_list.Statement.{statement}
 use Rattle.stream.proofs.read_list.Tie as tie
 
-list_fault_requires : tie.Need-list-fault-requires
+list_fault_requires : tie.Need-list_fault-code-requires
 list_fault_requires c κs = c.before.requires
 
-returns : tie.Need-returns
+returns : tie.Need-returns-then-code-ne-DONE
 returns c =
     let a = c.before.before.before.args in
-    listed_faulty a.s.now a.at c.before.before.before.requires c.before.list-fault.result c.before.list-fault.ensures c.if1.true
+    listed_faulty a.s.now a.at c.before.before.before.requires c.before.list_fault-code.result c.before.list_fault-code.ensures c.if-code-ne-DONE.true
 
-add_read_integers : tie.Need-overflow-add-read-integers
+add_read_integers : tie.Need-overflow_add-at
 add_read_integers c =
     let a = c.before.before.before.args in
-    omega (arith, listed_fits a.s.now a.at c.before.before.before.requires c.before.list-fault.result c.before.list-fault.ensures c.if1.false)
+    omega (arith, listed_fits a.s.now a.at c.before.before.before.requires c.before.list_fault-code.result c.before.list_fault-code.ensures c.if-code-ne-DONE.false)
 
-add_read_integers_2 : tie.Need-overflow-add-read-integers-2
+add_read_integers_2 : tie.Need-overflow_add-at-2
 add_read_integers_2 c =
     let a = c.before.before.before.args in
-    omega (arith, listed_fits a.s.now a.at c.before.before.before.requires c.before.list-fault.result c.before.list-fault.ensures c.if1.false)
+    omega (arith, listed_fits a.s.now a.at c.before.before.before.requires c.before.list_fault-code.result c.before.list_fault-code.ensures c.if-code-ne-DONE.false)
 
-shared_slice_read_read_integers : tie.Need-shared-slice-read-read-integers
+shared_slice_read_read_integers : tie.Need-bounds-s-at
 shared_slice_read_read_integers c =
     let at_list_fault = c.before.before in
     let start = at_list_fault.before.before in
     let a = start.args in
-    omega (arith, listed_fits a.s.now a.at start.requires at_list_fault.list-fault.result at_list_fault.list-fault.ensures c.before.if1.false)
+    omega (arith, listed_fits a.s.now a.at start.requires at_list_fault.list_fault-code.result at_list_fault.list_fault-code.ensures c.before.if-code-ne-DONE.false)
 
-cast_read_integers : tie.Need-overflow-cast-read-integers
+cast_read_integers : tie.Need-overflow_cast-s
 cast_read_integers c =
     let at_list_fault = c.before.before in
     let start = at_list_fault.before.before in
     let a = start.args in
-    omega (arith, listed_few a.s.now a.at start.requires at_list_fault.list-fault.result at_list_fault.list-fault.ensures c.before.if1.false)
+    omega (arith, listed_few a.s.now a.at start.requires at_list_fault.list_fault-code.result at_list_fault.list_fault-code.ensures c.before.if-code-ne-DONE.false)
 
-read_integers_requires : tie.Need-read-integers-requires
+read_integers_requires : tie.Need-read_integers-requires
 read_integers_requires c κs =
     let at_list_fault = c.before.before in
     let start = at_list_fault.before.before in
     let a = start.args in
-    (listed_fits a.s.now a.at start.requires at_list_fault.list-fault.result at_list_fault.list-fault.ensures c.before.if1.false, listed_few a.s.now a.at start.requires at_list_fault.list-fault.result at_list_fault.list-fault.ensures c.before.if1.false)
+    (listed_fits a.s.now a.at start.requires at_list_fault.list_fault-code.result at_list_fault.list_fault-code.ensures c.before.if-code-ne-DONE.false, listed_few a.s.now a.at start.requires at_list_fault.list_fault-code.result at_list_fault.list_fault-code.ensures c.before.if-code-ne-DONE.false)
 
-returns_2 : tie.Need-returns-2
+returns_2 : tie.Need-returns
 returns_2 c =
     let at_if1 = c.before.before in
     let at_list_fault = at_if1.before in
     let start = at_list_fault.before.before in
     let a = start.args in
-    listed_right a.s.now a.at start.requires at_list_fault.list-fault.result at_list_fault.list-fault.ensures at_if1.if1.false _ _ _ _ c.read-integers.ensures
+    listed_right a.s.now a.at start.requires at_list_fault.list_fault-code.result at_list_fault.list_fault-code.ensures at_if1.if-code-ne-DONE.false _ _ _ _ c.read_integers.ensures
 
 pub read_list_spec : {M : Type 1} → statement M
 read_list_spec =

@@ -5,35 +5,35 @@ use borrow.Author.Rules.{rules}
 use Rattle.stream.proofs.record_fault.Statement.{statement}
 use Rattle.stream.proofs.record_fault.Tie as tie
 
-returns : tie.Need-returns
+returns : tie.Need-returns-then-at-s
 returns c =
     let a = c.before.args in
-    fault_none a.kind a.size a.s.now a.at c.if1.true
+    fault_none a.kind a.size a.s.now a.at c.if-at-s.true
 
-shared_slice_read_if2 : tie.Need-shared-slice-read-if2
+shared_slice_read_if2 : tie.Need-bounds-s-at
 shared_slice_read_if2 c = search rules
 
-returns_2 : tie.Need-returns-2
+returns_2 : tie.Need-returns-then-s-at
 returns_2 c =
     let a = c.before.before.before.args in
-    fault_kind a.kind a.size a.s.now a.at (omega (arith, c.before.before.if1.false, c.before.before.before.requires)) c.if2.true
+    fault_kind a.kind a.size a.s.now a.at (omega (arith, c.before.before.if-at-s.false, c.before.before.before.requires)) c.if-s-at.true
 
-sub_if3 : tie.Need-overflow-sub-if3
+sub_if3 : tie.Need-overflow_sub-s
 sub_if3 c = search rules
 
-returns_3 : tie.Need-returns-3
+returns_3 : tie.Need-returns-then-s-at-2
 returns_3 c =
     let at_if1 = c.before.before.before in
     let start = at_if1.before in
     let a = start.args in
-    fault_short a.kind a.size a.s.now a.at (omega (arith, at_if1.if1.false, start.requires)) c.before.if2.false c.if3.true
+    fault_short a.kind a.size a.s.now a.at (omega (arith, at_if1.if-at-s.false, start.requires)) c.before.if-s-at.false c.if-s-at-2.true
 
-returns_4 : tie.Need-returns-4
+returns_4 : tie.Need-returns
 returns_4 c =
     let at_if1 = c.before.before.before in
     let start = at_if1.before in
     let a = start.args in
-    fault_right a.kind a.size a.s.now a.at (omega (arith, at_if1.if1.false, start.requires)) c.before.if2.false c.if3.false
+    fault_right a.kind a.size a.s.now a.at (omega (arith, at_if1.if-at-s.false, start.requires)) c.before.if-s-at.false c.if-s-at-2.false
 
 pub record_fault_spec : {M : Type 1} → statement M
 record_fault_spec =

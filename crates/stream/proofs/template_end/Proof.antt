@@ -4,26 +4,26 @@ use borrow.Author.Rules.{rules}
 use Rattle.stream.proofs.template_end.Statement.{statement}
 use Rattle.stream.proofs.template_end.Tie as tie
 
-shared_slice_read_result : tie.Need-shared-slice-read-result
+shared_slice_read_result : tie.Need-bounds-input-1
 shared_slice_read_result c = search rules
 
-cast_result : tie.Need-overflow-cast-result
-cast_result c = omega (arith, c.shared-slice-known.given 1, c.shared-slice-known.given 2)
+cast_result : tie.Need-overflow_cast-result
+cast_result c = omega (arith, c.shared_slice_known-1.given 1, c.shared_slice_known-1.given 2)
 
-shared_slice_read_result_2 : tie.Need-shared-slice-read-result-2
+shared_slice_read_result_2 : tie.Need-bounds-input-2
 shared_slice_read_result_2 c = search rules
 
-cast_result_2 : tie.Need-overflow-cast-result-2
-cast_result_2 c = omega (arith, c.shared-slice-known2.given 1, c.shared-slice-known2.given 2)
+cast_result_2 : tie.Need-overflow_cast-result-2
+cast_result_2 c = omega (arith, c.shared_slice_known-2-1.given 1, c.shared_slice_known-2-1.given 2)
 
-mul_result : tie.Need-overflow-mul-result
-mul_result c = omega (arith, c.shared-slice-known2.given 1, c.shared-slice-known2.given 2)
+mul_result : tie.Need-overflow_mul-result
+mul_result c = omega (arith, c.shared_slice_known-2-1.given 1, c.shared_slice_known-2-1.given 2)
 
-add_result : tie.Need-overflow-add-result
-add_result c = omega (arith, c.shared-slice-known2.given 1, c.shared-slice-known2.given 2)
+add_result : tie.Need-overflow_add-result
+add_result c = omega (arith, c.shared_slice_known-2-1.given 1, c.shared_slice_known-2-1.given 2)
 
-add_result_2 : tie.Need-overflow-add-result-2
-add_result_2 c = omega (arith, c.shared-slice-known2.given 1, c.shared-slice-known2.given 2)
+add_result_2 : tie.Need-overflow_add-result-2
+add_result_2 c = omega (arith, c.shared_slice_known-2-1.given 1, c.shared_slice_known-2-1.given 2)
 
 returns : tie.Need-returns
 returns c = search rules

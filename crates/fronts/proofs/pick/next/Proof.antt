@@ -71,7 +71,7 @@ returns : tie.Need-returns
 returns c =
     let x = c.before.before in
     let s = begun x in
-    (pick_skip s.pre.5 x.before.before.before.before.before.lowest-place.ensures (far x) (omega arith) x.before.before.before.before.from_on.ensures, rest_fewer _ x.before.before.before.before.before.lowest-place.ensures (after x))
+    (pick_skip s.requires.5 x.before.before.before.before.before.lowest-place.ensures (far x) (omega arith) x.before.before.before.before.from_on.ensures, rest_fewer _ x.before.before.before.before.before.lowest-place.ensures (after x))
 
 cast_first_assignment : tie.Need-overflow-cast-first-assignment
 cast_first_assignment c = search rules
@@ -89,7 +89,7 @@ returns_2 : tie.Need-returns-2
 returns_2 c =
     let x = c.before.before.before.before.before.before.before.before in
     let s = begun x in (
-      pick_keep s.pre.5 x.before.before.before.before.before.lowest-place.ensures (far x) s.pre.0 s.pre.1 s.pre.2 (lead x) c.before.before.before.before.before.first-assignment.ensures (omega arith) (sym c.before.comes-before.ensures ∙ not-true _ c.if2.true)
+      pick_keep s.requires.5 x.before.before.before.before.before.lowest-place.ensures (far x) s.requires.0 s.requires.1 s.requires.2 (lead x) c.before.before.before.before.before.first-assignment.ensures (omega arith) (sym c.before.comes-before.ensures ∙ not-true _ c.if2.true)
           x.before.before.before.before.from_on.ensures,
       rest_fewer _ x.before.before.before.before.before.lowest-place.ensures (after x),
     )
@@ -106,7 +106,7 @@ returns_3 c =
     let s = begun x in
     let rest = x.before.before.before.before.from_on.result in
     let head = c.before.first_member.result in (
-      pick_change s.pre.5 x.before.before.before.before.before.lowest-place.ensures (far x) s.pre.0 s.pre.1 s.pre.2 (lead x) c.before.before.before.before.before.before.before.before.first-assignment.ensures (omega (arith, c.before.before.before.before.before.before.before.before.before.if1.false)) rest (sym c.before.before.before.before.comes-before.ensures ∙ not-false _ c.before.before.before.if2.false)
+      pick_change s.requires.5 x.before.before.before.before.before.lowest-place.ensures (far x) s.requires.0 s.requires.1 s.requires.2 (lead x) c.before.before.before.before.before.before.before.before.first-assignment.ensures (omega (arith, c.before.before.before.before.before.before.before.before.before.if1.false)) rest (sym c.before.before.before.before.comes-before.ensures ∙ not-false _ c.before.before.before.if2.false)
           c.before.first_member.ensures x.before.before.before.before.from_on.ensures c.up-to2.ensures,
       rest_fewer _ x.before.before.before.before.before.lowest-place.ensures (λ e h. after x e (and_right (leb e head) (bit rest e) (sym (c.up-to2.ensures e) ∙ h))),
     )

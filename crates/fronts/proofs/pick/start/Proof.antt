@@ -80,7 +80,7 @@ returns_2 c =
     let h = f.before in
     let l = least h.before.before in
     let s = l.before in
-    tried_none l.lowest-place.ensures.inside (leads_found s.pre.0 s.pre.2 (far h) f.first-assignment.ensures (not-true _ c.if2.true))
+    tried_none l.lowest-place.ensures.inside (leads_found s.requires.0 s.requires.2 (far h) f.first-assignment.ensures (not-true _ c.if2.true))
 
 first_member_requires : tie.Need-first-member-requires
 first_member_requires c κs = let h = c.before.before.before.before.before in (omega (arith, long h), high h)
@@ -103,7 +103,7 @@ returns_3 c =
     let l = least h.before.before in
     let s = l.before in
     let a = f.first-assignment.ensures in
-    tried_start s.pre.0 s.pre.1 s.pre.2 l.lowest-place.ensures (found_leads s.pre.0 s.pre.2 (far h) a (long h) (not-false _ e.if2.false)) (far h) a
+    tried_start s.requires.0 s.requires.1 s.requires.2 l.lowest-place.ensures (found_leads s.requires.0 s.requires.2 (far h) a (long h) (not-false _ e.if2.false)) (far h) a
     c.before.from-on2.result m.first_member.ensures c.before.from-on2.ensures c.up-to2.ensures
 
 pub start_spec : {M : Type 1} → statement M

@@ -8,19 +8,19 @@ use Rattle.judging.proofs.reach.fresh.Reads as reads
 use Rattle.judging.proofs.reach.fresh.Lts as lts
 use Rattle.masks.proofs.has.Reads as has-reads
 
-returns : tie.Need-returns
-returns c = λ e. fresh_low c.if1.true
+returns : tie.Need-returns-then-x-b
+returns c = λ e. fresh_low c.if-x-b.true
 
-add_if2 : tie.Need-overflow-add-if2
+add_if2 : tie.Need-overflow_add-b
 add_if2 c = search rules
 
-returns_2 : tie.Need-returns-2
-returns_2 c = λ e. fresh_high c.if2.true
+returns_2 : tie.Need-returns-then-b-x
+returns_2 c = λ e. fresh_high c.if-b-x.true
 
 has_requires : tie.Need-has-requires
 has_requires c κs = search rules
 
-returns_3 : tie.Need-returns-3
+returns_3 : tie.Need-returns
 returns_3 c = λ e. fresh_any (omega arith) (omega arith) c.has.ensures
 
 pub fresh_spec : {M : Type 1} → statement M

@@ -5,16 +5,16 @@ use Rattle.judging.proofs.reach.last_end.Tie as tie
 use Rattle.judging.proofs.reach.last_end.Reads as reads
 use Rattle.judging.proofs.reach.last_end.Lts as lts
 
-cast_most : tie.Need-overflow-cast-most
+cast_most : tie.Need-overflow_cast-most
 cast_most c = search rules
 
-add_most : tie.Need-overflow-add-most
+add_most : tie.Need-overflow_add-most
 add_most c = search rules
 
-cast_most_2 : tie.Need-overflow-cast-most-2
+cast_most_2 : tie.Need-overflow_cast-most-2
 cast_most_2 c = search rules
 
-add_most_2 : tie.Need-overflow-add-most-2
+add_most_2 : tie.Need-overflow_add-most-2
 add_most_2 c = search rules
 
 lesser_requires : tie.Need-lesser-requires

@@ -4,10 +4,10 @@ use borrow.Author.Rules.{rules}
 use Rattle.judging.proofs.reach.one_on.Statement.{statement}
 use Rattle.judging.proofs.reach.one_on.Tie as tie
 
-in_both_requires : tie.Need-in-both-requires
+in_both_requires : tie.Need-in_both-requires
 in_both_requires c κs = search rules
 
-moved_up_requires : tie.Need-moved-up-requires
+moved_up_requires : tie.Need-moved_up-requires
 moved_up_requires c κs = search rules
 
 returns : tie.Need-returns

@@ -7,11 +7,11 @@ use Rattle.judging.proofs.reach.start.Reads as reads
 use Rattle.judging.proofs.reach.start.Lts as lts
 use Rattle.masks.proofs.with_place.Reads as with-place-reads
 
-with_place_requires : tie.Need-with-place-requires
+with_place_requires : tie.Need-with_place-requires
 with_place_requires c κs = search rules
 
 returns : tie.Need-returns
-returns c = reached_start c.with-place.ensures
+returns c = reached_start c.with_place.ensures
 
 pub start_spec : {M : Type 1} → statement M
 start_spec = tie.close (tie.spec with_place_requires returns)

@@ -71,7 +71,7 @@ module _ (t : ℕ) (c : any-of-lts.In-loop (any_of_calls t) (any_of_at t) any_of
   all = called.args.t.now
 
   given : MembersFrom all called.args.from called.args.n called.args.left called.args.lo.now called.args.hi.now
-  given = called.pre.1
+  given = called.requires.1
 
   going : Walking all called.args.from called.args.n called.args.left called.args.lo.now called.args.hi.now c.before.loop.lo c.before.loop.hi c.before.loop.s c.before.loop.more
   going = c.before.loop.invariant
@@ -173,7 +173,7 @@ module _ (t : ℕ) (s : set-of-lts.Start (set_of_calls t) (set_of_at t) set-of.P
   from = s.args.from
 
   stands : HereFrom bytes from s.args.left s.args.lo.now s.args.hi.now
-  stands = s.pre.1
+  stands = s.requires.1
 
   fits : (place_in from + 2 ≤ length bytes) × (0 < s.args.left)
   fits = members_fit _ _ _ _ _ stands

@@ -17,9 +17,9 @@ gaps_requires c κs =
     let w = c.before.before.before.before in
     let s = w.before.before.before in
     let b = w.swept.ensures in (
-      omega (arith, b.0, b.1.size_low, s.pre.0),
-      omega (arith, b.0, b.1.size_high, s.pre.1),
-      subst Ascending (sym b.1.ranges) (ascending_joined _ [] s.pre.2 tt),
+      omega (arith, b.0, b.1.size_low, s.requires.0),
+      omega (arith, b.0, b.1.size_high, s.requires.1),
+      subst Ascending (sym b.1.ranges) (ascending_joined _ [] s.requires.2 tt),
     )
 
 same_length : tie.Need-same-length
