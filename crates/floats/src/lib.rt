@@ -11,14 +11,14 @@ use format::{BAD_BOUNDS, DONE, NOT_A_NUMBER};
 use integers::bits_at;
 
 // A range with both its ends.
-#[derive(Drop)]
+#[derive(Clone, Copy)]
 pub struct Bounds {
     pub lower: f64,
     pub upper: f64,
 }
 
 // A decoded leaf.
-#[derive(Drop)]
+#[derive(Clone, Copy)]
 pub enum Leaf {
     Float(f64),
     Range(Bounds),

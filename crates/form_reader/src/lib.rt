@@ -21,7 +21,7 @@ struct Record {
 }
 
 // Whether the bytes are a normal form; if so, the side that it is written from, and how many ranges the arrays have.
-#[derive(Drop)]
+#[derive(Clone, Copy)]
 pub struct Form {
     pub normal: bool,
     pub outside: bool,

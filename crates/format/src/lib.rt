@@ -6,7 +6,7 @@ ghost use Rattle.std.specs.Prelude.{◌≡◌};
 ghost use Rattle.format.specs.Bounds.{bad_bounds};
 
 // ---- the families: what the elements of a list are, and the leaves of its template
-#[derive(Drop)]
+#[derive(Clone, Copy)]
 pub enum Family {
     Integers,
     Floats,

@@ -7,7 +7,6 @@ use native.Mathlib.Omega.{arith}
 use lib.IntN.{ℤ}
 use lib.ListN.{length, length-append}
 use Rattle.ranges.specs.Spans.{Span, span, holds, gaps, cut_to}
-use Rattle.grammar.specs.Record.{outside}
 use Rattle.integers.specs.Integer.{int_bytes, eq_z}
 use Rattle.facts.proofs.Cases.{by-test}
 use Rattle.forms.specs.Form.{record_of, records, matched_form, unmatched_form, side_form, form, record_length, records_length, matched_length, unmatched_length, side_length, form_length}

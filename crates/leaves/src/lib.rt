@@ -13,7 +13,7 @@ use format::{
 use integers::int_at;
 
 // The bounds of a leaf, both included, and the place after it.
-#[derive(Drop)]
+#[derive(Clone, Copy)]
 pub struct Bounds {
     pub lower: i32,
     pub upper: i32,

@@ -80,127 +80,127 @@ any_of_returns t c =
     let turned = placed.before in
     let walk = turned.before.before in
     retold false _ _ _ _ _ _ _ (sym c.said.ensures.0) (sym c.said.ensures.1)
-    (turned_round _ _ _ _ _ _ _ _ _ _ turned.others.ensures (retold true _ _ _ _ _ _ _ (sym turned.before.mask-in.ensures) (sym placed.IsPlace-in.ensures) walk.none_of.ensures))
+    (turned_round _ _ _ _ _ _ _ _ _ _ turned.others.ensures (retold true _ _ _ _ _ _ _ (sym turned.before.mask_in-rest.ensures) (sym placed.IsPlace-in.ensures) walk.none_of-r.ensures))
 
 -- ---- none_of
 
-abbrev invariant_loop : none-of-lts.invariant-loop
+abbrev invariant_loop : none-of-lts.invariant-loop-more
 invariant_loop t at n integers floats asked left rest₀ p₀ more₀ rest p more = Going t at n left integers floats asked p more rest
 
-abbrev decreases_loop : none-of-lts.decreases-loop
+abbrev decreases_loop : none-of-lts.decreases-loop-more
 decreases_loop t at n integers floats asked left rest₀ p₀ more₀ rest p more = length t - p
 
 -- the member that a turn is at
-module _ (t : ℕ) (c : none-of-lts.In-loop (none_calls t) (none_of_at t) none_of.Post invariant_loop decreases_loop) where
+module _ (t : ℕ) (c : none-of-lts.In-loop-more (none_calls t) (none_of_at t) none_of.Post invariant_loop decreases_loop) where
   abbrev start_of : none-of-lts.Start (none_calls t) (none_of_at t) none_of.Post invariant_loop decreases_loop
   start_of = c.before.before.before.before
 
   abbrev family_of : Family
-  family_of = c.before.loop.invariant.family
+  family_of = c.before.loop-more.invariant.family
 
-  member : Here family_of start_of.args.t.now c.before.loop.p start_of.args.left
-  member = here _ _ _ _ _ c.loop-test.true c.before.loop.invariant.todo
+  member : Here family_of start_of.args.t.now c.before.loop-more.p start_of.args.left
+  member = here _ _ _ _ _ c.loop-more-test.true c.before.loop-more.invariant.todo
 
   -- the asked elements that it misses, and the place after it
   abbrev Misses : ℕ → ℕ → Type 0
-  Misses rest p = AllMissed start_of.args.t.now c.before.loop.p start_of.args.left start_of.args.integers.now start_of.args.floats.now c.before.loop.rest rest p
+  Misses rest p = AllMissed start_of.args.t.now c.before.loop-more.p start_of.args.left start_of.args.integers.now start_of.args.floats.now c.before.loop-more.rest rest p
 
   abbrev kind_of : ℕ
-  kind_of = get_or start_of.args.t.now c.before.loop.p 0
+  kind_of = get_or start_of.args.t.now c.before.loop-more.p 0
 
-  on_list : kind_of ≡ 4 → Opened family_of start_of.args.t.now c.before.loop.p start_of.args.left
+  on_list : kind_of ≡ 4 → Opened family_of start_of.args.t.now c.before.loop-more.p start_of.args.left
   on_list e = opened _ _ _ _ member false e
 
-  on_complement : kind_of ≡ 5 → Opened family_of start_of.args.t.now c.before.loop.p start_of.args.left
+  on_complement : kind_of ≡ 5 → Opened family_of start_of.args.t.now c.before.loop-more.p start_of.args.left
   on_complement e = opened _ _ _ _ member true e
 
   -- the loop goes on behind the member
   again : (rest p : ℕ) → Misses rest p
-      → Going start_of.args.t.now start_of.args.at start_of.args.n start_of.args.left start_of.args.integers.now start_of.args.floats.now start_of.args.asked p (c.before.loop.more - 1) rest
-  again rest p w = step _ _ _ _ _ _ _ _ _ c.loop-test.true w _ _ _ c.before.loop.invariant
+      → Going start_of.args.t.now start_of.args.at start_of.args.n start_of.args.left start_of.args.integers.now start_of.args.floats.now start_of.args.asked p (c.before.loop-more.more - 1) rest
+  again rest p w = step _ _ _ _ _ _ _ _ _ c.loop-more-test.true w _ _ _ c.before.loop-more.invariant
 
-  less : (rest p : ℕ) → Misses rest p → length start_of.args.t.now - p < length start_of.args.t.now - c.before.loop.p
+  less : (rest p : ℕ) → Misses rest p → length start_of.args.t.now - p < length start_of.args.t.now - c.before.loop-more.p
   less rest p w = further _ _ _ _ _ _ _ _ _ member w
 
 -- a 03
-any_missed : (t : ℕ) (c : none-of-lts.Then2 (none_calls t) (none_of_at t) none_of.Post invariant_loop decreases_loop) → let turn = c.before.before.before in Misses t turn 0 (turn.before.loop.p + 1)
-any_missed t c = let turn = c.before.before.before in any_misses _ _ _ _ _ _ c.if2.true (here_fits _ _ _ _ (member t turn))
+any_missed : (t : ℕ) (c : none-of-lts.Then-kind-eq-ANY (none_calls t) (none_of_at t) none_of.Post invariant_loop decreases_loop) → let turn = c.before.before.before in Misses t turn 0 (turn.before.loop-more.p + 1)
+any_missed t c = let turn = c.before.before.before in any_misses _ _ _ _ _ _ c.if-kind-eq-ANY.true (here_fits _ _ _ _ (member t turn))
 
-any_less : (t : ℕ) → none-of-lts.Need-loop-smaller (none_calls t) (none_of_at t) none_of.Post invariant_loop decreases_loop
+any_less : (t : ℕ) → none-of-lts.Need-loop-more-smaller-then-kind-eq-ANY (none_calls t) (none_of_at t) none_of.Post invariant_loop decreases_loop
 any_less t c = less t c.before.before.before _ _ (any_missed t c)
 
-any_again : (t : ℕ) → none-of-lts.Need-loop-preserved (none_calls t) (none_of_at t) none_of.Post invariant_loop decreases_loop
+any_again : (t : ℕ) → none-of-lts.Need-loop-more-preserved-then-kind-eq-ANY (none_calls t) (none_of_at t) none_of.Post invariant_loop decreases_loop
 any_again t c = again t c.before.before.before _ _ (any_missed t c)
 
 -- a 01 or 02
 low_kind : (kind : ℕ) → kind < 4 → (kind ≡ 3 → ⊥) → kind < 3
 low_kind kind h n = omega arith
 
-leaf_kind : (t : ℕ) (c : none-of-lts.Else2 (none_calls t) (none_of_at t) none_of.Post invariant_loop decreases_loop) → kind_of t c.before.before.before < 3
-leaf_kind t c = low_kind _ c.before.if1.true c.if2.false
+leaf_kind : (t : ℕ) (c : none-of-lts.Else-kind-eq-ANY (none_calls t) (none_of_at t) none_of.Post invariant_loop decreases_loop) → kind_of t c.before.before.before < 3
+leaf_kind t c = low_kind _ c.before.if-kind-lt-LIST.true c.if-kind-eq-ANY.false
 
-leaf_missed : (t : ℕ) (c : none-of-lts.After-missed (none_calls t) (none_of_at t) none_of.Post invariant_loop decreases_loop)
-    → Misses t c.before.before.before.before.before.before.before c.missed.result c.before.before.before.bounds-at.result.next
+leaf_missed : (t : ℕ) (c : none-of-lts.After-missed-rest (none_calls t) (none_of_at t) none_of.Post invariant_loop decreases_loop)
+    → Misses t c.before.before.before.before.before.before.before c.missed-rest.result c.before.before.before.bounds_at-b.result.next
 leaf_missed t c =
     let told = c.before.before in
     let bounds = told.before in
-    leaf_misses_again _ _ _ _ _ _ _ _ _ _ told.struct_told.given.0.1 told.struct_told.given.1.0.1 (leaf_kind t bounds.before) bounds.bounds-at.ensures c.missed.ensures
+    leaf_misses_again _ _ _ _ _ _ _ _ _ _ told.struct_told-1.given.0.1 told.struct_told-1.given.1.0.1 (leaf_kind t bounds.before) bounds.bounds_at-b.ensures c.missed-rest.ensures
 
-leaf_less : (t : ℕ) → none-of-lts.Need-loop-smaller-2 (none_calls t) (none_of_at t) none_of.Post invariant_loop decreases_loop
+leaf_less : (t : ℕ) → none-of-lts.Need-loop-more-smaller-else-kind-eq-ANY (none_calls t) (none_of_at t) none_of.Post invariant_loop decreases_loop
 leaf_less t c = less t c.before.before.before.before.before.before.before _ _ (leaf_missed t c)
 
-leaf_again : (t : ℕ) → none-of-lts.Need-loop-preserved-2 (none_calls t) (none_of_at t) none_of.Post invariant_loop decreases_loop
+leaf_again : (t : ℕ) → none-of-lts.Need-loop-more-preserved-else-kind-eq-ANY (none_calls t) (none_of_at t) none_of.Post invariant_loop decreases_loop
 leaf_again t c = again t c.before.before.before.before.before.before.before _ _ (leaf_missed t c)
 
 -- a list: its members are next
-list_counted : (t : ℕ) → none-of-lts.Need-overflow-add-more-2 (none_calls t) (none_of_at t) none_of.Post invariant_loop decreases_loop
+list_counted : (t : ℕ) → none-of-lts.Need-overflow_add-more-then-kind-eq-LIST (none_calls t) (none_of_at t) none_of.Post invariant_loop decreases_loop
 list_counted t c =
     let turn = c.before.before.before.before in
-    omega (arith, few _ _ _ _ _ turn.before.loop.invariant.todo, (start_of t turn).requires.1.short, c.shared-slice-known4.given (turn.before.loop.p + 1))
+    omega (arith, few _ _ _ _ _ turn.before.loop-more.invariant.todo, (start_of t turn).requires.1.short, c.shared_slice_known-then-kind-eq-LIST-1.given (turn.before.loop-more.p + 1))
 
-list_less : (t : ℕ) → none-of-lts.Need-loop-smaller-3 (none_calls t) (none_of_at t) none_of.Post invariant_loop decreases_loop
-list_less t c = omega (arith, (on_list t c.before.before.before.before c.before.if3.true).fits)
+list_less : (t : ℕ) → none-of-lts.Need-loop-more-smaller-then-kind-eq-LIST (none_calls t) (none_of_at t) none_of.Post invariant_loop decreases_loop
+list_less t c = omega (arith, (on_list t c.before.before.before.before c.before.if-kind-eq-LIST.true).fits)
 
-list_again : (t : ℕ) → none-of-lts.Need-loop-preserved-3 (none_calls t) (none_of_at t) none_of.Post invariant_loop decreases_loop
-list_again t c = let turn = c.before.before.before.before in step_into _ _ _ _ turn.loop-test.true c.before.if3.true _ _ _ _ _ _ turn.before.loop.invariant
+list_again : (t : ℕ) → none-of-lts.Need-loop-more-preserved-then-kind-eq-LIST (none_calls t) (none_of_at t) none_of.Post invariant_loop decreases_loop
+list_again t c = let turn = c.before.before.before.before in step_into _ _ _ _ turn.loop-more-test.true c.before.if-kind-eq-LIST.true _ _ _ _ _ _ turn.before.loop-more.invariant
 
 -- a 06 or 07
-float_missed : (t : ℕ) (c : none-of-lts.After-float-leaf-size (none_calls t) (none_of_at t) none_of.Post invariant_loop decreases_loop)
-    → let turn = c.before.before.before.before.before.before.before in Misses t turn c.before.missed-floats.result (turn.before.loop.p + c.float-leaf-size.result)
+float_missed : (t : ℕ) (c : none-of-lts.After-float_leaf_size-p (none_calls t) (none_of_at t) none_of.Post invariant_loop decreases_loop)
+    → let turn = c.before.before.before.before.before.before.before in Misses t turn c.before.missed_floats-rest.result (turn.before.loop-more.p + c.float_leaf_size-p.result)
 float_missed t c =
     let decoded = c.before.before in
     let there = decoded.before in
     let turn = there.before.before.before.before in
-    member_retold _ _ _ _ _ _ refl (ap (λ n. turn.before.loop.p + n) c.float-leaf-size.ensures)
-    (float_misses _ _ _ _ _ _ _ _ there.if4.true (float_there _ _ _ _ (member t turn) there.if4.true) decoded.float-leaf-at.ensures c.before.missed-floats.ensures)
+    member_retold _ _ _ _ _ _ refl (ap (λ n. turn.before.loop-more.p + n) c.float_leaf_size-p.ensures)
+    (float_misses _ _ _ _ _ _ _ _ there.if-kind-gt-COMPLEMENT.true (float_there _ _ _ _ (member t turn) there.if-kind-gt-COMPLEMENT.true) decoded.float_leaf_at.ensures c.before.missed_floats-rest.ensures)
 
-float_less : (t : ℕ) → none-of-lts.Need-loop-smaller-4 (none_calls t) (none_of_at t) none_of.Post invariant_loop decreases_loop
+float_less : (t : ℕ) → none-of-lts.Need-loop-more-smaller-then-kind-gt-COMPLEMENT (none_calls t) (none_of_at t) none_of.Post invariant_loop decreases_loop
 float_less t c = less t c.before.before.before.before.before.before.before _ _ (float_missed t c)
 
-float_again : (t : ℕ) → none-of-lts.Need-loop-preserved-4 (none_calls t) (none_of_at t) none_of.Post invariant_loop decreases_loop
+float_again : (t : ℕ) → none-of-lts.Need-loop-more-preserved-then-kind-gt-COMPLEMENT (none_calls t) (none_of_at t) none_of.Post invariant_loop decreases_loop
 float_again t c = again t c.before.before.before.before.before.before.before _ _ (float_missed t c)
 
 -- a complement
-complement_here : (t : ℕ) (c : none-of-lts.Else4 (none_calls t) (none_of_at t) none_of.Post invariant_loop decreases_loop) → kind_of t c.before.before.before.before ≡ 5
-complement_here t c = complement_kind _ c.before.before.if1.false c.before.if3.false c.if4.false
+complement_here : (t : ℕ) (c : none-of-lts.Else-kind-gt-COMPLEMENT (none_calls t) (none_of_at t) none_of.Post invariant_loop decreases_loop) → kind_of t c.before.before.before.before ≡ 5
+complement_here t c = complement_kind _ c.before.before.if-kind-lt-LIST.false c.before.if-kind-eq-LIST.false c.if-kind-gt-COMPLEMENT.false
 
-complement_missed : (t : ℕ) (c : none-of-lts.After-place-in (none_calls t) (none_of_at t) none_of.Post invariant_loop decreases_loop)
-    → Misses t c.before.before.before.before.before.before.before.before c.before.mask-in.result c.IsPlace-in.result
+complement_missed : (t : ℕ) (c : none-of-lts.After-place_in-p (none_calls t) (none_of_at t) none_of.Post invariant_loop decreases_loop)
+    → Misses t c.before.before.before.before.before.before.before.before c.before.mask_in-rest.result c.IsPlace-in.result
 complement_missed t c =
     let walk = c.before.before in
-    member_retold _ _ _ _ _ _ c.before.mask-in.ensures c.IsPlace-in.ensures
-    (complement_misses _ _ _ _ _ _ _ _ (complement_here t walk.before.before) walk.any_of.ensures)
+    member_retold _ _ _ _ _ _ c.before.mask_in-rest.ensures c.IsPlace-in.ensures
+    (complement_misses _ _ _ _ _ _ _ _ (complement_here t walk.before.before) walk.any_of-r.ensures)
 
-complement_less : (t : ℕ) → none-of-lts.Need-loop-smaller-5 (none_calls t) (none_of_at t) none_of.Post invariant_loop decreases_loop
+complement_less : (t : ℕ) → none-of-lts.Need-loop-more-smaller (none_calls t) (none_of_at t) none_of.Post invariant_loop decreases_loop
 complement_less t c = less t c.before.before.before.before.before.before.before.before _ _ (complement_missed t c)
 
-complement_again : (t : ℕ) → none-of-lts.Need-loop-preserved-5 (none_calls t) (none_of_at t) none_of.Post invariant_loop decreases_loop
+complement_again : (t : ℕ) → none-of-lts.Need-loop-more-preserved (none_calls t) (none_of_at t) none_of.Post invariant_loop decreases_loop
 complement_again t c = again t c.before.before.before.before.before.before.before.before _ _ (complement_missed t c)
 
 -- ---- both
 
-pub +any-of-none-of-spec : {M : Type 1} → statement M
-+any-of-none-of-spec = close μ_any_of μ_none_of (λ t. any-of-lts.spec (any_calls t) (any_of_at t) any_of.Post
+pub +any_of_none_of_spec : {M : Type 1} → statement M
++any_of_none_of_spec = close μ_any_of μ_none_of (λ t. any-of-lts.spec (any_calls t) (any_of_at t) any_of.Post
     -- none_of_requires, mask_in_requires, others_requires, place-in-requires, said_requires, returns
     (λ c κs. (omega (arith, c.before.before.requires.0), c.before.before.requires.1))
     (λ c κs. tt)
@@ -209,7 +209,7 @@ pub +any-of-none-of-spec : {M : Type 1} → statement M
     (λ c κs.
     let walk = c.before.before.before in
     let asks = walk.before.before.before.requires.1 in
-    omega (arith, c.IsPlace-in.ensures, (walk.none_of.ensures asks.family).inside, asks.short))
+    omega (arith, c.IsPlace-in.ensures, (walk.none_of-r.ensures asks.family).inside, asks.short))
     (any_of_returns t))
     λ t. none-of-lts.spec (none_calls t) (none_of_at t) none_of.Post invariant_loop decreases_loop
     -- loop_holds, shared_slice_read_kind
@@ -217,34 +217,34 @@ pub +any-of-none-of-spec : {M : Type 1} → statement M
     (λ c. omega (arith, here_fits _ _ _ _ (member t c.before)))
     -- a 03: add_p, sub-more, loop_less, loop_again
     (λ c. let turn = c.before.before.before in omega (arith, here_fits _ _ _ _ (member t turn), (start_of t turn).requires.1.short))
-    (λ c. c.before.before.before.loop-test.true)
+    (λ c. c.before.before.before.loop-more-test.true)
     (any_less t)
     (any_again t)
     -- a 01 or 02: bounds_at_requires, missed_requires, sub_more_2, loop_less_2, loop_again_2
     (λ c κs. integer_there _ _ _ _ (member t c.before.before.before) (leaf_kind t c))
     (λ c κs.
     let turn = c.before.before.before.before.before.before in
-    integers_asked _ _ _ _ _ _ _ (member t turn) (leaf_kind t c.before.before.before) turn.before.loop.invariant.among)
-    (λ c. c.before.before.before.before.before.before.before.loop-test.true)
+    integers_asked _ _ _ _ _ _ _ (member t turn) (leaf_kind t c.before.before.before) turn.before.loop-more.invariant.among)
+    (λ c. c.before.before.before.before.before.before.before.loop-more-test.true)
     (leaf_less t)
     (leaf_again t)
     -- a list: sub-more-3, add-more, shared-slice-read-more, cast-more, add-more-2, add_p_2, loop_less_3, loop_again_3
-    (λ c. c.before.before.before.loop-test.true)
-    (λ c. omega (arith, (on_list t c.before.before.before c.if3.true).fits, (start_of t c.before.before.before).requires.1.short))
-    (λ c. omega (arith, (on_list t c.before.before.before.before c.before.if3.true).fits))
-    (λ c. omega (arith, c.shared-slice-known4.given (c.before.before.before.before.before.loop.p + 1)))
+    (λ c. c.before.before.before.loop-more-test.true)
+    (λ c. omega (arith, (on_list t c.before.before.before c.if-kind-eq-LIST.true).fits, (start_of t c.before.before.before).requires.1.short))
+    (λ c. omega (arith, (on_list t c.before.before.before.before c.before.if-kind-eq-LIST.true).fits))
+    (λ c. omega (arith, c.shared_slice_known-then-kind-eq-LIST-1.given (c.before.before.before.before.before.loop-more.p + 1)))
     (list_counted t)
-    (λ c. let turn = c.before.before.before.before in omega (arith, (on_list t turn c.before.if3.true).fits, (start_of t turn).requires.1.short))
+    (λ c. let turn = c.before.before.before.before in omega (arith, (on_list t turn c.before.if-kind-eq-LIST.true).fits, (start_of t turn).requires.1.short))
     (list_less t)
     (list_again t)
     -- a 06 or 07: float_leaf_at_requires, missed_floats_requires, float-leaf-size-requires, add-p-3, sub-more-4, loop-less-4, loop-again-4
-    (λ c κs. float_there _ _ _ _ (member t c.before.before.before.before) c.if4.true)
+    (λ c κs. float_there _ _ _ _ (member t c.before.before.before.before) c.if-kind-gt-COMPLEMENT.true)
     (λ c κs.
     let turn = c.before.before.before.before.before in
-    floats_asked _ _ _ _ _ _ _ (member t turn) c.before.if4.true turn.before.loop.invariant.among)
+    floats_asked _ _ _ _ _ _ _ (member t turn) c.before.if-kind-gt-COMPLEMENT.true turn.before.loop-more.invariant.among)
     (λ c κs. tt)
     (λ c. let turn = c.before.before.before.before.before.before.before in omega (arith, (float_missed t c (family_of t turn)).inside, (start_of t turn).requires.1.short))
-    (λ c. c.before.before.before.before.before.before.before.loop-test.true)
+    (λ c. c.before.before.before.before.before.before.before.loop-more-test.true)
     (float_less t)
     (float_again t)
     -- a complement: add_any_of, add_any_of_2, shared_slice_read_any_of, cast_any_of, sub_any_of, any_of_requires, mask_in_requires, place-in-requires,
@@ -252,18 +252,18 @@ pub +any-of-none-of-spec : {M : Type 1} → statement M
     (λ c. let turn = c.before.before.before.before in omega (arith, (on_complement t turn (complement_here t c)).fits, (start_of t turn).requires.1.short))
     (λ c. let turn = c.before.before.before.before in omega (arith, (on_complement t turn (complement_here t c)).fits, (start_of t turn).requires.1.short))
     (λ c. omega (arith, (on_complement t c.before.before.before.before.before (complement_here t c.before)).fits))
-    (λ c. omega (arith, c.shared-slice-known5.given (c.before.before.before.before.before.before.loop.p + 1)))
+    (λ c. omega (arith, c.shared_slice_known-else-kind-gt-COMPLEMENT-1.given (c.before.before.before.before.before.before.loop-more.p + 1)))
     (λ c. (on_complement t c.before.before.before.before.before (complement_here t c.before)).deep)
     (λ c κs.
     let turn = c.before.before.before.before.before in
     let i = on_complement t turn (complement_here t c.before) in
     let s = start_of t turn in
-    (omega (arith, s.requires.0, i.deep), record { family = family_of t turn; members = i.members; short = s.requires.1.short; among = turn.before.loop.invariant.among }))
+    (omega (arith, s.requires.0, i.deep), record { family = family_of t turn; members = i.members; short = s.requires.1.short; among = turn.before.loop-more.invariant.among }))
     (λ c κs. tt)
     (λ c κs. tt)
-    (λ c. c.before.before.before.before.before.before.before.before.loop-test.true)
+    (λ c. c.before.before.before.before.before.before.before.before.loop-more-test.true)
     (complement_less t)
     (complement_again t)
     -- said_requires, returns
-    (λ c κs. omega (arith, c.before.loop.invariant.todo.inside, c.before.before.before.before.requires.1.short))
-    (λ c. retold true _ _ _ _ _ _ _ (sym c.said.ensures.0) (sym c.said.ensures.1) (done _ _ _ _ _ _ _ _ _ _ (omega (arith, c.before.loop-test.false)) c.before.before.loop.invariant))
+    (λ c κs. omega (arith, c.before.loop-more.invariant.todo.inside, c.before.before.before.before.requires.1.short))
+    (λ c. retold true _ _ _ _ _ _ _ (sym c.said.ensures.0) (sym c.said.ensures.1) (done _ _ _ _ _ _ _ _ _ _ (omega (arith, c.before.loop-more-test.false)) c.before.before.loop-more.invariant))

@@ -4,7 +4,7 @@ use borrow.Author.Rules.{rules}
 use Rattle.element_match.proofs.hit.Statement.{statement}
 use Rattle.element_match.proofs.hit.Tie as tie
 
-cast_with : tie.Need-overflow-cast-with
+cast_with : tie.Need-overflow_cast-e
 cast_with c = search rules
 
 with_requires : tie.Need-with-requires

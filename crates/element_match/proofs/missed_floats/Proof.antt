@@ -19,63 +19,63 @@ use Rattle.element_match.proofs.missed_floats.Tie as tie
 abbrev taken : List Float → Leaf → ℕ → Bool
 taken ys l j = float_matches l (get_or ys j nan)
 
-abbrev invariant_loop : tie.invariant-loop
+abbrev invariant_loop : tie.invariant-loop-left
 invariant_loop ys asked l rest₀ left₀ rest left = Sifting (taken ys l) asked left rest
 
-abbrev decreases_loop : tie.decreases-loop
+abbrev decreases_loop : tie.decreases-loop-left
 decreases_loop ys asked l rest₀ left₀ rest left = count (bit left) 32
 
-loop_holds : tie.Need-loop-init invariant_loop decreases_loop
+loop_holds : tie.Need-loop-left-init invariant_loop decreases_loop
 loop_holds c = sifting_start _ _
 
-lowest_requires : tie.Need-lowest-requires invariant_loop decreases_loop
-lowest_requires c κs = omega (arith, c.loop-test.true)
+lowest_requires : tie.Need-lowest-e-requires invariant_loop decreases_loop
+lowest_requires c κs = omega (arith, c.loop-left-test.true)
 
-without_lowest_requires : tie.Need-without-lowest-requires invariant_loop decreases_loop
-without_lowest_requires c κs = omega (arith, c.before.loop-test.true)
+without_lowest_requires : tie.Need-without_lowest-left-requires invariant_loop decreases_loop
+without_lowest_requires c κs = omega (arith, c.before.loop-left-test.true)
 
 -- the element of this turn stands in the list
-here : (c : tie.After-without-lowest invariant_loop decreases_loop) → c.before.lowest.result < length c.before.before.before.before.before.args.floats.now
+here : (c : tie.After-without_lowest-left invariant_loop decreases_loop) → c.before.lowest-e.result < length c.before.before.before.before.before.args.floats.now
 here c =
     let turn = c.before.before.before in
-    turn.before.before.requires.inside c.before.lowest.result (turn.loop.invariant.from c.before.lowest.result c.before.lowest.ensures.inside)
+    turn.before.before.requires.inside c.before.lowest-e.result (turn.loop-left.invariant.from c.before.lowest-e.result c.before.lowest-e.ensures.inside)
 
-falls : (c : tie.After-without-lowest invariant_loop decreases_loop) → count (bit c.without-lowest.result) 32 < count (bit c.before.before.before.loop.left) 32
-falls c = left_falls c.before.lowest.result (c.without-lowest.ensures _ _ c.before.lowest.ensures) c.before.lowest.ensures.inside c.before.lowest.ensures.low (λ j h. h)
+falls : (c : tie.After-without_lowest-left invariant_loop decreases_loop) → count (bit c.without_lowest-left.result) 32 < count (bit c.before.before.before.loop-left.left) 32
+falls c = left_falls c.before.lowest-e.result (c.without_lowest-left.ensures _ _ c.before.lowest-e.ensures) c.before.lowest-e.ensures.inside c.before.lowest-e.ensures.low (λ j h. h)
 
-cast_x : tie.Need-overflow-cast-x invariant_loop decreases_loop
+cast_x : tie.Need-overflow_cast-x invariant_loop decreases_loop
 cast_x c = search rules
 
-mul_x : tie.Need-overflow-mul-x invariant_loop decreases_loop
-mul_x c = omega (arith, c.before.lowest.ensures.low)
+mul_x : tie.Need-offset_bounds-floats-e invariant_loop decreases_loop
+mul_x c = omega (arith, c.before.lowest-e.ensures.low)
 
-shared_slice_read_x : tie.Need-shared-slice-read-x invariant_loop decreases_loop
+shared_slice_read_x : tie.Need-bounds-floats-e invariant_loop decreases_loop
 shared_slice_read_x c = here c.before
 
-leaf_hit_requires : tie.Need-leaf-hit-requires invariant_loop decreases_loop
+leaf_hit_requires : tie.Need-leaf_hit-requires invariant_loop decreases_loop
 leaf_hit_requires c κs = search rules
 
-flip_requires : tie.Need-flip-requires invariant_loop decreases_loop
-flip_requires c κs = c.before.before.before.before.lowest.ensures.low
+flip_requires : tie.Need-flip-rest-requires invariant_loop decreases_loop
+flip_requires c κs = c.before.before.before.before.lowest-e.ensures.low
 
-loop_less : tie.Need-loop-smaller invariant_loop decreases_loop
+loop_less : tie.Need-loop-left-smaller-then-leaf_hit invariant_loop decreases_loop
 loop_less c = falls c.before.before.before.before
 
-loop_again : tie.Need-loop-preserved invariant_loop decreases_loop
+loop_again : tie.Need-loop-left-preserved-then-leaf_hit invariant_loop decreases_loop
 loop_again c =
     let t = c.before.before.before.before in
-    sifting_gone _ _ _ _ t.before.before.before.loop.invariant _ _ t.before.lowest.ensures.inside (t.without-lowest.ensures _ _ t.before.lowest.ensures) _ (sym c.before.before.leaf-hit.ensures ∙ c.before.if1.true) c.flip.ensures
+    sifting_gone _ _ _ _ t.before.before.before.loop-left.invariant _ _ t.before.lowest-e.ensures.inside (t.without_lowest-left.ensures _ _ t.before.lowest-e.ensures) _ (sym c.before.before.leaf_hit.ensures ∙ c.before.if-leaf_hit.true) c.flip-rest.ensures
 
-loop_less_2 : tie.Need-loop-smaller-2 invariant_loop decreases_loop
+loop_less_2 : tie.Need-loop-left-smaller invariant_loop decreases_loop
 loop_less_2 c = falls c.before.before.before
 
-loop_again_2 : tie.Need-loop-preserved-2 invariant_loop decreases_loop
+loop_again_2 : tie.Need-loop-left-preserved invariant_loop decreases_loop
 loop_again_2 c =
     let t = c.before.before.before in
-    sifting_kept _ _ _ _ t.before.before.before.loop.invariant _ _ t.before.lowest.ensures.inside (t.without-lowest.ensures _ _ t.before.lowest.ensures) (sym c.before.leaf-hit.ensures ∙ c.if1.false)
+    sifting_kept _ _ _ _ t.before.before.before.loop-left.invariant _ _ t.before.lowest-e.ensures.inside (t.without_lowest-left.ensures _ _ t.before.lowest-e.ensures) (sym c.before.leaf_hit.ensures ∙ c.if-leaf_hit.false)
 
 returns : tie.Need-returns invariant_loop decreases_loop
-returns c = sifting_done _ _ _ _ c.loop-test.false c.before.loop.invariant
+returns c = sifting_done _ _ _ _ c.loop-left-test.false c.before.loop-left.invariant
 
 pub missed_floats_spec : {M : Type 1} → statement M
 missed_floats_spec =

@@ -94,149 +94,149 @@ abbrev calls : ℕ → lts.Claims
 calls t =
     (head-end-reads.Asked, head-end-reads.Learnt, refusal-reads.Asked, refusal-reads.Learnt, is-group-reads.Asked, is-group-reads.Learnt, below t, scan-all.Post)
 
-abbrev Inv : lts.invariant-loop
+abbrev Inv : lts.invariant-loop-more
 Inv t from n left sort s₀ more₀ depths₀ s more depths = Scanning sort t left n from s more depths
 
 -- a depth further down there are at most as many as a byte says
-abbrev decreases_loop : lts.decreases-loop
+abbrev decreases_loop : lts.decreases-loop-more
 decreases_loop t from n left sort s₀ more₀ depths₀ s more depths = depths * 256 + more
 
-loop_holds : (t : ℕ) → lts.Need-loop-init (calls t) (at t) scan-all.Post Inv decreases_loop
+loop_holds : (t : ℕ) → lts.Need-loop-more-init (calls t) (at t) scan-all.Post Inv decreases_loop
 loop_holds t c = record { fits = c.before.requires.1; down = omega arith; goes = λ r h. h }
 
-head_end_requires : (t : ℕ) → lts.Need-head-end-requires (calls t) (at t) scan-all.Post Inv decreases_loop
-head_end_requires t c κs = c.before.loop.invariant.fits.0
+head_end_requires : (t : ℕ) → lts.Need-head_end-end-requires (calls t) (at t) scan-all.Post Inv decreases_loop
+head_end_requires t c κs = c.before.loop-more.invariant.fits.0
 
-returns : (t : ℕ) → lts.Need-returns (calls t) (at t) scan-all.Post Inv decreases_loop
+returns : (t : ℕ) → lts.Need-returns-then-end-gt-FAULT (calls t) (at t) scan-all.Post Inv decreases_loop
 returns t c =
     let turn = c.before.before.before in
     let a = turn.before.before.args in
-    let g = turn.loop.invariant in
-    let one = one_fault_lem a.sort a.t.now turn.loop.depths turn.loop.s c.before.head-end.result g.fits c.before.head-end.ensures c.if1.true in
-    g.goes _ (all_stop a.sort a.t.now turn.loop.depths _ turn.loop.s _ c.before.before.loop-test.true one c.if1.true)
+    let g = turn.loop-more.invariant in
+    let one = one_fault_lem a.sort a.t.now turn.loop-more.depths turn.loop-more.s c.before.head_end-end.result g.fits c.before.head_end-end.ensures c.if-end-gt-FAULT.true in
+    g.goes _ (all_stop a.sort a.t.now turn.loop-more.depths _ turn.loop-more.s _ c.before.before.loop-more-test.true one c.if-end-gt-FAULT.true)
 
 refusal_requires : (t : ℕ) → lts.Need-refusal-requires (calls t) (at t) scan-all.Post Inv decreases_loop
 refusal_requires t c κs = search rules
 
-returns_2 : (t : ℕ) → lts.Need-returns-2 (calls t) (at t) scan-all.Post Inv decreases_loop
+returns_2 : (t : ℕ) → lts.Need-returns-then-depths-eq0 (calls t) (at t) scan-all.Post Inv decreases_loop
 returns_2 t c =
     let read = c.before.before.before in
     let turn = read.before.before in
     let a = turn.before.before.args in
-    let g = turn.loop.invariant in
-    let one = one_deep a.sort a.t.now turn.loop.depths turn.loop.s read.head-end.result g.fits c.before.before.if1.false read.head-end.ensures _ c.refusal.ensures c.before.if2.true in
-    g.goes _ (all_stop a.sort a.t.now turn.loop.depths _ turn.loop.s _ read.before.loop-test.true one (omega (arith, c.refusal.ensures)))
+    let g = turn.loop-more.invariant in
+    let one = one_deep a.sort a.t.now turn.loop-more.depths turn.loop-more.s read.head_end-end.result g.fits c.before.before.if-end-gt-FAULT.false read.head_end-end.ensures _ c.refusal.ensures c.before.if-depths-eq0.true in
+    g.goes _ (all_stop a.sort a.t.now turn.loop-more.depths _ turn.loop-more.s _ read.before.loop-more-test.true one (omega (arith, c.refusal.ensures)))
 
 -- what is known where the kind is looked at
-turn_of : (t : ℕ) (c : lts.Else2 (calls t) (at t) scan-all.Post Inv decreases_loop) → Turn c.before.before.before.before.before.before.args.sort c.before.before.before.before.before.before.args.t.now c.before.before.before.before.loop.s c.before.before.before.before.loop.more c.before.before.before.before.loop.depths c.before.before.head-end.result
+turn_of : (t : ℕ) (c : lts.Else-depths-eq0 (calls t) (at t) scan-all.Post Inv decreases_loop) → Turn c.before.before.before.before.before.before.args.sort c.before.before.before.before.before.before.args.t.now c.before.before.before.before.loop-more.s c.before.before.before.before.loop-more.more c.before.before.before.before.loop-more.depths c.before.before.head_end-end.result
 turn_of t c = record {
-  fits = c.before.before.before.before.loop.invariant.fits;
-  some = c.before.before.before.loop-test.true;
-  stands = c.before.before.head-end.ensures;
-  sound = c.before.if1.false;
-  level = pos_of_ne-zero c.if2.false;
+  fits = c.before.before.before.before.loop-more.invariant.fits;
+  some = c.before.before.before.loop-more-test.true;
+  stands = c.before.before.head_end-end.ensures;
+  sound = c.before.if-end-gt-FAULT.false;
+  level = pos_of_ne-zero c.if-depths-eq0.false;
 }
 
-shared_slice_read_is_group : (t : ℕ) → lts.Need-shared-slice-read-is-group (calls t) (at t) scan-all.Post Inv decreases_loop
+shared_slice_read_is_group : (t : ℕ) → lts.Need-bounds-t-at (calls t) (at t) scan-all.Post Inv decreases_loop
 shared_slice_read_is_group t c = some_byte _ _ _ _ _ _ (turn_of t c.before)
 
-is_group_requires : (t : ℕ) → lts.Need-is-group-requires (calls t) (at t) scan-all.Post Inv decreases_loop
+is_group_requires : (t : ℕ) → lts.Need-is_group-requires (calls t) (at t) scan-all.Post Inv decreases_loop
 is_group_requires t c κs = search rules
 
 -- the members of a list or complement begin within the bytes
-held_fits : (t : ℕ) (c : lts.Then3 (calls t) (at t) scan-all.Post Inv decreases_loop) → From c.before.before.before.before.before.before.before.before.before.args.t.now (c.before.before.before.before.before.before.before.loop.s + 2) × (place_in c.before.before.before.before.before.before.before.loop.s + 2 ≤ length c.before.before.before.before.before.before.before.before.before.args.t.now) × (length c.before.before.before.before.before.before.before.before.before.args.t.now < 65536)
-held_fits t c = opens _ _ _ _ _ _ (turn_of t c.before.before.before) (sym c.before.is-group.ensures ∙ c.if3.true)
+held_fits : (t : ℕ) (c : lts.Then-is_group (calls t) (at t) scan-all.Post Inv decreases_loop) → From c.before.before.before.before.before.before.before.before.before.args.t.now (c.before.before.before.before.before.before.before.loop-more.s + 2) × (place_in c.before.before.before.before.before.before.before.loop-more.s + 2 ≤ length c.before.before.before.before.before.before.before.before.before.args.t.now) × (length c.before.before.before.before.before.before.before.before.before.args.t.now < 65536)
+held_fits t c = opens _ _ _ _ _ _ (turn_of t c.before.before.before) (sym c.before.is_group.ensures ∙ c.if-is_group.true)
 
-add_k : (t : ℕ) → lts.Need-overflow-add-k (calls t) (at t) scan-all.Post Inv decreases_loop
+add_k : (t : ℕ) → lts.Need-overflow_add-k (calls t) (at t) scan-all.Post Inv decreases_loop
 add_k t c = let f = held_fits t c in omega arith
 
-shared_slice_read_k : (t : ℕ) → lts.Need-shared-slice-read-k (calls t) (at t) scan-all.Post Inv decreases_loop
+shared_slice_read_k : (t : ℕ) → lts.Need-bounds-t-at-then-is_group (calls t) (at t) scan-all.Post Inv decreases_loop
 shared_slice_read_k t c = let f = held_fits t c.before in omega arith
 
-cast_k : (t : ℕ) → lts.Need-overflow-cast-k (calls t) (at t) scan-all.Post Inv decreases_loop
-cast_k t c = omega (arith, c.shared-slice-known3.given (place_in c.before.before.before.before.before.before.before.before.loop.s + 1))
+cast_k : (t : ℕ) → lts.Need-overflow_cast-k (calls t) (at t) scan-all.Post Inv decreases_loop
+cast_k t c = omega (arith, c.shared_slice_known-then-is_group-1.given (place_in c.before.before.before.before.before.before.before.before.loop-more.s + 1))
 
-add_s : (t : ℕ) → lts.Need-overflow-add-s (calls t) (at t) scan-all.Post Inv decreases_loop
+add_s : (t : ℕ) → lts.Need-overflow_add-s (calls t) (at t) scan-all.Post Inv decreases_loop
 add_s t c = let f = held_fits t c.before.before in omega arith
 
-sub_depths : (t : ℕ) → lts.Need-overflow-sub-depths (calls t) (at t) scan-all.Post Inv decreases_loop
+sub_depths : (t : ℕ) → lts.Need-overflow_sub-depths (calls t) (at t) scan-all.Post Inv decreases_loop
 sub_depths t c = (turn_of t c.before.before.before.before.before).level
 
-loop_less : (t : ℕ) → lts.Need-loop-smaller (calls t) (at t) scan-all.Post Inv decreases_loop
+loop_less : (t : ℕ) → lts.Need-loop-more-smaller-then-more-eq1 (calls t) (at t) scan-all.Post Inv decreases_loop
 loop_less t c =
     let l = (turn_of t c.before.before.before.before.before).level in
-    omega (arith, c.before.shared-slice-known3.given (place_in c.before.before.before.before.before.before.before.before.before.loop.s + 1), c.if4.true)
+    omega (arith, c.before.shared_slice_known-then-is_group-1.given (place_in c.before.before.before.before.before.before.before.before.before.loop-more.s + 1), c.if-more-eq1.true)
 
-loop_again : (t : ℕ) → lts.Need-loop-preserved (calls t) (at t) scan-all.Post Inv decreases_loop
-loop_again t c = descends _ _ _ _ _ _ (turn_of t c.before.before.before.before.before) _ _ _ c.before.before.before.before.before.before.before.before.before.loop.invariant c.if4.true (sym c.before.before.before.is-group.ensures ∙ c.before.before.if3.true)
+loop_again : (t : ℕ) → lts.Need-loop-more-preserved-then-more-eq1 (calls t) (at t) scan-all.Post Inv decreases_loop
+loop_again t c = descends _ _ _ _ _ _ (turn_of t c.before.before.before.before.before) _ _ _ c.before.before.before.before.before.before.before.before.before.loop-more.invariant c.if-more-eq1.true (sym c.before.before.before.is_group.ensures ∙ c.before.before.if-is_group.true)
 
-add_scan_all : (t : ℕ) → lts.Need-overflow-add-scan-all (calls t) (at t) scan-all.Post Inv decreases_loop
+add_scan_all : (t : ℕ) → lts.Need-overflow_add-s-else-more-eq1 (calls t) (at t) scan-all.Post Inv decreases_loop
 add_scan_all t c = let f = held_fits t c.before.before in omega arith
 
-sub_scan_all : (t : ℕ) → lts.Need-overflow-sub-scan-all (calls t) (at t) scan-all.Post Inv decreases_loop
+sub_scan_all : (t : ℕ) → lts.Need-overflow_sub-depths-else-more-eq1 (calls t) (at t) scan-all.Post Inv decreases_loop
 sub_scan_all t c = (turn_of t c.before.before.before.before.before).level
 
-scan_all_requires : (t : ℕ) → lts.Need-scan-all-requires (calls t) (at t) scan-all.Post Inv decreases_loop
+scan_all_requires : (t : ℕ) → lts.Need-scan_all-s-requires (calls t) (at t) scan-all.Post Inv decreases_loop
 scan_all_requires t c κs =
     let l = (turn_of t c.before.before.before.before.before).level in
-    let d = c.before.before.before.before.before.before.before.before.before.loop.invariant.down in
+    let d = c.before.before.before.before.before.before.before.before.before.loop-more.invariant.down in
     (omega (arith, c.before.before.before.before.before.before.before.before.before.before.before.requires.0), (held_fits t c.before.before).0)
 
 -- one with members was read, or refused
-one_held : (t : ℕ) (c : lts.After-scan-all (calls t) (at t) scan-all.Post Inv decreases_loop) → ScannedOne c.before.before.before.before.before.before.before.before.before.before.before.before.args.sort c.before.before.before.before.before.before.before.before.before.before.before.before.args.t.now c.before.before.before.before.before.before.before.before.before.before.loop.depths c.before.before.before.before.before.before.before.before.before.before.loop.s c.scan-all.result
-one_held t c = held _ _ _ _ _ _ (turn_of t c.before.before.before.before.before.before) (sym c.before.before.before.before.is-group.ensures ∙ c.before.before.before.if3.true) _ c.scan-all.ensures
+one_held : (t : ℕ) (c : lts.After-scan_all-s (calls t) (at t) scan-all.Post Inv decreases_loop) → ScannedOne c.before.before.before.before.before.before.before.before.before.before.before.before.args.sort c.before.before.before.before.before.before.before.before.before.before.before.before.args.t.now c.before.before.before.before.before.before.before.before.before.before.loop-more.depths c.before.before.before.before.before.before.before.before.before.before.loop-more.s c.scan_all-s.result
+one_held t c = held _ _ _ _ _ _ (turn_of t c.before.before.before.before.before.before) (sym c.before.before.before.before.is_group.ensures ∙ c.before.before.before.if-is_group.true) _ c.scan_all-s.ensures
 
-returns_3 : (t : ℕ) → lts.Need-returns-3 (calls t) (at t) scan-all.Post Inv decreases_loop
-returns_3 t c = stops _ _ _ _ _ _ (turn_of t c.before.before.before.before.before.before.before) _ _ _ c.before.before.before.before.before.before.before.before.before.before.before.loop.invariant _ (one_held t c.before) c.if5.true
+returns_3 : (t : ℕ) → lts.Need-returns-then-s-gt-FAULT (calls t) (at t) scan-all.Post Inv decreases_loop
+returns_3 t c = stops _ _ _ _ _ _ (turn_of t c.before.before.before.before.before.before.before) _ _ _ c.before.before.before.before.before.before.before.before.before.before.before.loop-more.invariant _ (one_held t c.before) c.if-s-gt-FAULT.true
 
-sub_more : (t : ℕ) → lts.Need-overflow-sub-more (calls t) (at t) scan-all.Post Inv decreases_loop
+sub_more : (t : ℕ) → lts.Need-overflow_sub-more (calls t) (at t) scan-all.Post Inv decreases_loop
 sub_more t c = (turn_of t c.before.before.before.before.before.before.before).some
 
-loop_less_2 : (t : ℕ) → lts.Need-loop-smaller-2 (calls t) (at t) scan-all.Post Inv decreases_loop
+loop_less_2 : (t : ℕ) → lts.Need-loop-more-smaller-else-more-eq1 (calls t) (at t) scan-all.Post Inv decreases_loop
 loop_less_2 t c = let p = (turn_of t c.before.before.before.before.before.before.before).some in omega arith
 
-loop_again_2 : (t : ℕ) → lts.Need-loop-preserved-2 (calls t) (at t) scan-all.Post Inv decreases_loop
-loop_again_2 t c = passes _ _ _ _ _ _ (turn_of t c.before.before.before.before.before.before.before) _ _ _ c.before.before.before.before.before.before.before.before.before.before.before.loop.invariant _ (one_held t c.before) c.if5.false
+loop_again_2 : (t : ℕ) → lts.Need-loop-more-preserved-else-more-eq1 (calls t) (at t) scan-all.Post Inv decreases_loop
+loop_again_2 t c = passes _ _ _ _ _ _ (turn_of t c.before.before.before.before.before.before.before) _ _ _ c.before.before.before.before.before.before.before.before.before.before.before.loop-more.invariant _ (one_held t c.before) c.if-s-gt-FAULT.false
 
-refusal_requires_2 : (t : ℕ) → lts.Need-refusal-requires-2 (calls t) (at t) scan-all.Post Inv decreases_loop
+refusal_requires_2 : (t : ℕ) → lts.Need-refusal-requires-then-s-gt-LAST_LEAF (calls t) (at t) scan-all.Post Inv decreases_loop
 refusal_requires_2 t c κs = search rules
 
-returns_4 : (t : ℕ) → lts.Need-returns-4 (calls t) (at t) scan-all.Post Inv decreases_loop
+returns_4 : (t : ℕ) → lts.Need-returns-then-s-gt-LAST_LEAF (calls t) (at t) scan-all.Post Inv decreases_loop
 returns_4 t c =
     let u = turn_of t c.before.before.before.before.before in
-    let one = over _ _ _ _ _ _ u (sym c.before.before.before.is-group.ensures ∙ c.before.before.if3.false) _ c.refusal2.ensures c.before.if6.true in
-    stops _ _ _ _ _ _ u _ _ _ c.before.before.before.before.before.before.before.before.before.loop.invariant _ one (omega (arith, c.refusal2.ensures))
+    let one = over _ _ _ _ _ _ u (sym c.before.before.before.is_group.ensures ∙ c.before.before.if-is_group.false) _ c.refusal-then-s-gt-LAST_LEAF.ensures c.before.if-s-gt-LAST_LEAF.true in
+    stops _ _ _ _ _ _ u _ _ _ c.before.before.before.before.before.before.before.before.before.loop-more.invariant _ one (omega (arith, c.refusal-then-s-gt-LAST_LEAF.ensures))
 
-add_s_2 : (t : ℕ) → lts.Need-overflow-add-s-2 (calls t) (at t) scan-all.Post Inv decreases_loop
+add_s_2 : (t : ℕ) → lts.Need-overflow_add-s-else-is_group (calls t) (at t) scan-all.Post Inv decreases_loop
 add_s_2 t c = let f = (turn_of t c.before.before.before.before).fits.1 in omega arith
 
-sub_s : (t : ℕ) → lts.Need-overflow-sub-s (calls t) (at t) scan-all.Post Inv decreases_loop
+sub_s : (t : ℕ) → lts.Need-overflow_sub-s (calls t) (at t) scan-all.Post Inv decreases_loop
 sub_s t c = (record_fits _ _ _ _ _ _ (turn_of t c.before.before.before.before)).0
 
-add_s_3 : (t : ℕ) → lts.Need-overflow-add-s-3 (calls t) (at t) scan-all.Post Inv decreases_loop
+add_s_3 : (t : ℕ) → lts.Need-overflow_add-s-else-is_group-2 (calls t) (at t) scan-all.Post Inv decreases_loop
 add_s_3 t c = let f = record_fits _ _ _ _ _ _ (turn_of t c.before.before.before.before) in omega arith
 
-sub_more_2 : (t : ℕ) → lts.Need-overflow-sub-more-2 (calls t) (at t) scan-all.Post Inv decreases_loop
+sub_more_2 : (t : ℕ) → lts.Need-overflow_sub-more-else-is_group (calls t) (at t) scan-all.Post Inv decreases_loop
 sub_more_2 t c = (turn_of t c.before.before.before.before).some
 
-loop_less_3 : (t : ℕ) → lts.Need-loop-smaller-3 (calls t) (at t) scan-all.Post Inv decreases_loop
+loop_less_3 : (t : ℕ) → lts.Need-loop-more-smaller (calls t) (at t) scan-all.Post Inv decreases_loop
 loop_less_3 t c = let p = (turn_of t c.before.before.before.before).some in omega arith
 
-loop_again_3 : (t : ℕ) → lts.Need-loop-preserved-3 (calls t) (at t) scan-all.Post Inv decreases_loop
+loop_again_3 : (t : ℕ) → lts.Need-loop-more-preserved (calls t) (at t) scan-all.Post Inv decreases_loop
 loop_again_3 t c =
     let u = turn_of t c.before.before.before.before in
-    let one = counts _ _ _ _ _ _ u (sym c.before.before.is-group.ensures ∙ c.before.if3.false) _ refl c.if6.false in
+    let one = counts _ _ _ _ _ _ u (sym c.before.before.is_group.ensures ∙ c.before.if-is_group.false) _ refl c.if-s-gt-LAST_LEAF.false in
     let f = record_fits _ _ _ _ _ _ u in
-    passes _ _ _ _ _ _ u _ _ _ c.before.before.before.before.before.before.before.before.loop.invariant _ one (omega (arith, c.if6.false))
+    passes _ _ _ _ _ _ u _ _ _ c.before.before.before.before.before.before.before.before.loop-more.invariant _ one (omega (arith, c.if-s-gt-LAST_LEAF.false))
 
-returns_5 : (t : ℕ) → lts.Need-returns-5 (calls t) (at t) scan-all.Post Inv decreases_loop
+returns_5 : (t : ℕ) → lts.Need-returns (calls t) (at t) scan-all.Post Inv decreases_loop
 returns_5 t c =
     let turn = c.before in
     let a = turn.before.before.args in
-    turn.loop.invariant.goes _ (all_end a.sort a.t.now turn.loop.depths turn.loop.more turn.loop.s (omega (arith, c.loop-test.false)) c.before.loop.invariant.fits)
+    turn.loop-more.invariant.goes _ (all_end a.sort a.t.now turn.loop-more.depths turn.loop-more.more turn.loop-more.s (omega (arith, c.loop-more-test.false)) c.before.loop-more.invariant.fits)
 
-pub +scan-all-spec : {M : Type 1} → statement M
-+scan-all-spec = close μ λ t. lts.spec (calls t)
+pub +scan_all_spec : {M : Type 1} → statement M
++scan_all_spec = close μ λ t. lts.spec (calls t)
     (at t)
     scan-all.Post
     Inv

@@ -5,34 +5,34 @@ use borrow.Author.Rules.{rules}
 use Rattle.elements.proofs.count_fault.Statement.{statement}
 use Rattle.elements.proofs.count_fault.Tie as tie
 
-sub_if1 : tie.Need-overflow-sub-if1
+sub_if1 : tie.Need-overflow_sub-t
 sub_if1 c = search rules
 
-returns : tie.Need-returns
+returns : tie.Need-returns-then-t-at-lt-COUNT_SIZE
 returns c =
     let a = c.before.args in
-    count_short a.lo a.hi a.t.now a.at c.if1.true
+    count_short a.lo a.hi a.t.now a.at c.if-t-at-lt-COUNT_SIZE.true
 
-add_n : tie.Need-overflow-add-n
+add_n : tie.Need-overflow_add-n
 add_n c = search rules
 
-shared_slice_read_n : tie.Need-shared-slice-read-n
+shared_slice_read_n : tie.Need-bounds-t-at
 shared_slice_read_n c = search rules
 
-returns_2 : tie.Need-returns-2
+returns_2 : tie.Need-returns-then-n-lo
 returns_2 c =
     let a = c.before.before.before.args in
-    count_low a.lo a.hi a.t.now a.at c.before.before.if1.false c.if2.true
+    count_low a.lo a.hi a.t.now a.at c.before.before.if-t-at-lt-COUNT_SIZE.false c.if-n-lo.true
 
-returns_3 : tie.Need-returns-3
+returns_3 : tie.Need-returns-then-hi-n
 returns_3 c =
     let a = c.before.before.before.before.args in
-    count_high a.lo a.hi a.t.now a.at c.before.before.before.if1.false c.before.if2.false c.if3.true
+    count_high a.lo a.hi a.t.now a.at c.before.before.before.if-t-at-lt-COUNT_SIZE.false c.before.if-n-lo.false c.if-hi-n.true
 
-returns_4 : tie.Need-returns-4
+returns_4 : tie.Need-returns
 returns_4 c =
     let a = c.before.before.before.before.args in
-    count_right a.lo a.hi a.t.now a.at c.before.before.before.if1.false c.before.if2.false c.if3.false
+    count_right a.lo a.hi a.t.now a.at c.before.before.before.if-t-at-lt-COUNT_SIZE.false c.before.if-n-lo.false c.if-hi-n.false
 
 pub count_fault_spec : {M : Type 1} → statement M
 count_fault_spec =

@@ -17,34 +17,34 @@ use Rattle.elements.proofs.refusal.Reads as refusal-reads
 refusal_requires : tie.Need-refusal-requires
 refusal_requires c κs = search rules
 
-returns : tie.Need-returns
+returns : tie.Need-returns-then-at-t
 returns c =
     let a = c.before.before.before.args in
-    fault_said _ _ _ 3 _ c.refusal.ensures (head_none float_head a.t.now a.at (omega (arith, c.before.if1.true))) (omega arith) (omega arith)
+    fault_said _ _ _ 3 _ c.refusal.ensures (head_none float_head a.t.now a.at (omega (arith, c.before.if-at-t.true))) (omega arith) (omega arith)
 
-shared_slice_read_is_group : tie.Need-shared-slice-read-is-group
+shared_slice_read_is_group : tie.Need-bounds-t-at
 shared_slice_read_is_group c = search rules
 
-is_group_requires : tie.Need-is-group-requires
+is_group_requires : tie.Need-is_group-requires
 is_group_requires c κs = search rules
 
-group_head_end_requires : tie.Need-group-head-end-requires
+group_head_end_requires : tie.Need-group_head_end-requires
 group_head_end_requires c κs = search rules
 
-returns_2 : tie.Need-returns-2
+returns_2 : tie.Need-returns-then-is_group
 returns_2 c =
     let start = c.before.before.before.before.before.before in
     let a = start.args in
-    group_head_lem float_head a.t.now a.at (omega (arith, c.before.before.before.before.if1.false, start.requires)) _ (sym c.before.before.is-group.ensures ∙ c.before.if2.true) (c.group-head-end.ensures Family.Floats)
+    group_head_lem float_head a.t.now a.at (omega (arith, c.before.before.before.before.if-at-t.false, start.requires)) _ (sym c.before.before.is_group.ensures ∙ c.before.if-is_group.true) (c.group_head_end.ensures Family.Floats)
 
-float_end_requires : tie.Need-float-end-requires
+float_end_requires : tie.Need-float_end-requires
 float_end_requires c κs = search rules
 
-returns_3 : tie.Need-returns-3
+returns_3 : tie.Need-returns
 returns_3 c =
     let start = c.before.before.before.before.before.before in
     let a = start.args in
-    leaf_head_lem float_head a.t.now a.at (omega (arith, c.before.before.before.before.if1.false, start.requires)) _ (sym c.before.before.is-group.ensures ∙ c.before.if2.false) c.float-end.ensures
+    leaf_head_lem float_head a.t.now a.at (omega (arith, c.before.before.before.before.if-at-t.false, start.requires)) _ (sym c.before.before.is_group.ensures ∙ c.before.if-is_group.false) c.float_end.ensures
 
 pub float_head_end_spec : {M : Type 1} → statement M
 float_head_end_spec =

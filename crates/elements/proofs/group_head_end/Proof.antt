@@ -8,24 +8,24 @@ use Rattle.elements.proofs.group_head_end.Lts as lts
 use Rattle.elements.proofs.count_fault.Reads as count-fault-reads
 use Rattle.elements.proofs.refusal.Reads as refusal-reads
 
-count_fault_requires : tie.Need-count-fault-requires
+count_fault_requires : tie.Need-count_fault-code-requires
 count_fault_requires c κs = search rules
 
 refusal_requires : tie.Need-refusal-requires
 refusal_requires c κs = search rules
 
-returns : tie.Need-returns
+returns : tie.Need-returns-then-code-ne-DONE
 returns c =
     let a = c.before.before.before.before.args in
-    λ fam b k. group_fault b a.t.now a.at c.before.before.count-fault.result c.before.before.count-fault.ensures _ c.refusal.ensures c.before.if1.true (search rules)
+    λ fam b k. group_fault b a.t.now a.at c.before.before.count_fault-code.result c.before.before.count_fault-code.ensures _ c.refusal.ensures c.before.if-code-ne-DONE.true (search rules)
 
-add_result : tie.Need-overflow-add-result
+add_result : tie.Need-overflow_add-result
 add_result c = search rules
 
-returns_2 : tie.Need-returns-2
+returns_2 : tie.Need-returns
 returns_2 c =
     let a = c.before.before.before.args in
-    λ fam b k. group_right b a.t.now a.at c.before.count-fault.result c.before.count-fault.ensures c.if1.false k
+    λ fam b k. group_right b a.t.now a.at c.before.count_fault-code.result c.before.count_fault-code.ensures c.if-code-ne-DONE.false k
 
 pub group_head_end_spec : {M : Type 1} → statement M
 group_head_end_spec =

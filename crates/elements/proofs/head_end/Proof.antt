@@ -8,16 +8,16 @@ use Rattle.elements.proofs.head_end.Lts as lts
 use Rattle.elements.proofs.integer_head_end.Reads as integer-head-end-reads
 use Rattle.elements.proofs.other_record_end.Reads as other-record-end-reads
 
-integer_head_end_requires : tie.Need-integer-head-end-requires
+integer_head_end_requires : tie.Need-integer_head_end-requires
 integer_head_end_requires c κs = search rules
 
-returns : tie.Need-returns
-returns c = let a = c.before.before.before.before.args in sort_whole a.t.now a.at _ a.sort c.before.if1.true c.integer-head-end.ensures
+returns : tie.Need-returns-then-sort-eq-WHOLE
+returns c = let a = c.before.before.before.before.args in sort_whole a.t.now a.at _ a.sort c.before.if-sort-eq-WHOLE.true c.integer_head_end.ensures
 
-other_record_end_requires : tie.Need-other-record-end-requires
+other_record_end_requires : tie.Need-other_record_end-requires
 other_record_end_requires c κs = search rules
 
-returns_2 : tie.Need-returns-2
+returns_2 : tie.Need-returns
 returns_2 c = search rules
 
 pub head_end_spec : {M : Type 1} → statement M

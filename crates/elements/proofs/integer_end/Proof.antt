@@ -9,80 +9,80 @@ use Rattle.elements.proofs.integer_end.Lts as lts
 use Rattle.elements.proofs.refusal.Reads as refusal-reads
 use Rattle.integers.proofs.int_at.Reads as int-at-reads
 
-shared_slice_read_kind : tie.Need-shared-slice-read-kind
+shared_slice_read_kind : tie.Need-bounds-t-at
 shared_slice_read_kind c = search rules
 
-sub_room : tie.Need-overflow-sub-room
+sub_room : tie.Need-overflow_sub-room
 sub_room c = search rules
 
 refusal_requires : tie.Need-refusal-requires
 refusal_requires c κs = search rules
 
-returns : tie.Need-returns
+returns : tie.Need-returns-then-room-lt-SINGLE_SIZE
 returns c =
     let a = c.before.before.before.before.before.args in
-    single_short a.t.now a.at c.before.before.if1.true _ c.refusal.ensures c.before.if2.true
+    single_short a.t.now a.at c.before.before.if-kind-eq-SINGLE.true _ c.refusal.ensures c.before.if-room-lt-SINGLE_SIZE.true
 
-add_result : tie.Need-overflow-add-result
+add_result : tie.Need-overflow_add-result
 add_result c = search rules
 
-returns_2 : tie.Need-returns-2
+returns_2 : tie.Need-returns-then-kind-eq-SINGLE
 returns_2 c =
     let a = c.before.before.before.before.args in
-    single_right a.t.now a.at c.before.if1.true c.if2.false
+    single_right a.t.now a.at c.before.if-kind-eq-SINGLE.true c.if-room-lt-SINGLE_SIZE.false
 
-refusal_requires_2 : tie.Need-refusal-requires-2
+refusal_requires_2 : tie.Need-refusal-requires-then-room-lt-RANGE_SIZE
 refusal_requires_2 c κs = search rules
 
-returns_3 : tie.Need-returns-3
+returns_3 : tie.Need-returns-then-room-lt-RANGE_SIZE
 returns_3 c =
     let a = c.before.before.before.before.before.before.args in
-    range_short a.t.now a.at c.before.before.if3.true _ c.refusal2.ensures c.before.if4.true
+    range_short a.t.now a.at c.before.before.if-kind-eq-RANGE.true _ c.refusal-then-room-lt-RANGE_SIZE.ensures c.before.if-room-lt-RANGE_SIZE.true
 
-add_int_at : tie.Need-overflow-add-int-at
+add_int_at : tie.Need-overflow_add-at
 add_int_at c = search rules
 
-int_at_requires : tie.Need-int-at-requires
+int_at_requires : tie.Need-int_at-requires
 int_at_requires c κs = search rules
 
-add_int_at_2 : tie.Need-overflow-add-int-at-2
+add_int_at_2 : tie.Need-overflow_add-at-then-kind-eq-RANGE
 add_int_at_2 c = search rules
 
-int_at_requires_2 : tie.Need-int-at-requires-2
+int_at_requires_2 : tie.Need-int_at-requires-then-kind-eq-RANGE
 int_at_requires_2 c κs = search rules
 
-refusal_requires_3 : tie.Need-refusal-requires-3
+refusal_requires_3 : tie.Need-refusal-requires-then-int_at
 refusal_requires_3 c κs = search rules
 
-returns_4 : tie.Need-returns-4
+returns_4 : tie.Need-returns-then-int_at
 returns_4 c =
     let p = c.before in
     let a = p.before.before.before.before.before.before.before.before.args in
-    range_reversed a.t.now a.at p.before.before.before.before.if3.true _ c.refusal3.ensures p.before.before.before.if4.false (told_order _ _ _ _ _ p.if5.true p.before.before.Int-at.type-inv p.before.int-at2.type-inv p.before.before.Int-at.ensures p.before.int-at2.ensures)
+    range_reversed a.t.now a.at p.before.before.before.before.if-kind-eq-RANGE.true _ c.refusal-then-int_at.ensures p.before.before.before.if-room-lt-RANGE_SIZE.false (told_order _ _ _ _ _ p.if-int_at.true p.before.before.int_at.type_inv p.before.int_at-then-kind-eq-RANGE.type_inv p.before.before.int_at.ensures p.before.int_at-then-kind-eq-RANGE.ensures)
 
-add_result_2 : tie.Need-overflow-add-result-2
+add_result_2 : tie.Need-overflow_add-result-then-kind-eq-RANGE
 add_result_2 c = search rules
 
-returns_5 : tie.Need-returns-5
+returns_5 : tie.Need-returns-then-kind-eq-RANGE
 returns_5 c =
     let a = c.before.before.before.before.before.before.before.before.args in
-    range_right a.t.now a.at c.before.before.before.before.if3.true c.before.before.before.if4.false (told_order _ _ _ _ _ c.if5.false c.before.before.Int-at.type-inv c.before.int-at2.type-inv c.before.before.Int-at.ensures c.before.int-at2.ensures)
+    range_right a.t.now a.at c.before.before.before.before.if-kind-eq-RANGE.true c.before.before.before.if-room-lt-RANGE_SIZE.false (told_order _ _ _ _ _ c.if-int_at.false c.before.before.int_at.type_inv c.before.int_at-then-kind-eq-RANGE.type_inv c.before.before.int_at.ensures c.before.int_at-then-kind-eq-RANGE.ensures)
 
-add_result_3 : tie.Need-overflow-add-result-3
+add_result_3 : tie.Need-overflow_add-result-then-kind-eq-ANY
 add_result_3 c = search rules
 
-returns_6 : tie.Need-returns-6
+returns_6 : tie.Need-returns-then-kind-eq-ANY
 returns_6 c =
     let a = c.before.before.before.before.before.args in
-    any_right a.t.now a.at c.if6.true c.before.before.before.before.before.requires.0
+    any_right a.t.now a.at c.if-kind-eq-ANY.true c.before.before.before.before.before.requires.0
 
-refusal_requires_4 : tie.Need-refusal-requires-4
+refusal_requires_4 : tie.Need-refusal-requires-2
 refusal_requires_4 c κs = search rules
 
-returns_7 : tie.Need-returns-7
+returns_7 : tie.Need-returns
 returns_7 c =
     let a = c.before.before.before.before.before.before.args in
-    unknown_kind a.t.now a.at _ c.refusal4.ensures c.before.before.before.if1.false c.before.before.if3.false c.before.if6.false
+    unknown_kind a.t.now a.at _ c.refusal-2.ensures c.before.before.before.if-kind-eq-SINGLE.false c.before.before.if-kind-eq-RANGE.false c.before.if-kind-eq-ANY.false
 
 pub integer_end_spec : {M : Type 1} → statement M
 integer_end_spec =

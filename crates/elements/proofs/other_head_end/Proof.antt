@@ -8,17 +8,17 @@ use Rattle.elements.proofs.other_head_end.Lts as lts
 use Rattle.elements.proofs.float_head_end.Reads as float-head-end-reads
 use Rattle.elements.proofs.typed_head_end.Reads as typed-head-end-reads
 
-float_head_end_requires : tie.Need-float-head-end-requires
+float_head_end_requires : tie.Need-float_head_end-requires
 float_head_end_requires c κs = search rules
 
-returns : tie.Need-returns
-returns c = let a = c.before.before.before.before.args in sort_floats a.t.now a.at _ a.sort c.before.if1.true c.float-head-end.ensures
+returns : tie.Need-returns-then-sort-eq-FLOATS
+returns c = let a = c.before.before.before.before.args in sort_floats a.t.now a.at _ a.sort c.before.if-sort-eq-FLOATS.true c.float_head_end.ensures
 
-typed_head_end_requires : tie.Need-typed-head-end-requires
+typed_head_end_requires : tie.Need-typed_head_end-requires
 typed_head_end_requires c κs = search rules
 
-returns_2 : tie.Need-returns-2
-returns_2 c = let a = c.before.before.before.before.args in sort_typed a.t.now a.at _ a.sort c.before.if1.false c.typed-head-end.ensures
+returns_2 : tie.Need-returns
+returns_2 c = let a = c.before.before.before.before.args in sort_typed a.t.now a.at _ a.sort c.before.if-sort-eq-FLOATS.false c.typed_head_end.ensures
 
 pub other_head_end_spec : {M : Type 1} → statement M
 other_head_end_spec =

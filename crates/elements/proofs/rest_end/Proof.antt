@@ -13,57 +13,57 @@ use Rattle.elements.proofs.rest_end.Lts as lts
 use Rattle.elements.proofs.is_group.Reads as is-group-reads
 use Rattle.elements.proofs.scan_all.Reads as scan-all-reads
 
-shared_slice_read_is_group : tie.Need-shared-slice-read-is-group
+shared_slice_read_is_group : tie.Need-bounds-t-at
 shared_slice_read_is_group c =
     let p = c.before.before.requires in
     head_some (leaves_for c.before.before.args.sort) _ _ _ p.0.1 p.1 p.2
 
-is_group_requires : tie.Need-is-group-requires
+is_group_requires : tie.Need-is_group-requires
 is_group_requires c κs = search rules
 
-returns : tie.Need-returns
+returns : tie.Need-returns-then-not-is_group
 returns c =
     let start = c.before.before.before.before in
     let a = start.args in
     let p = start.requires in
-    leaf_ended a.sort a.t.now a.at _ p.0.1 p.2 p.1 (sym c.before.is-group.ensures ∙ not-true _ c.if1.true)
+    leaf_ended a.sort a.t.now a.at _ p.0.1 p.2 p.1 (sym c.before.is_group.ensures ∙ not-true _ c.if-not-is_group.true-raw)
 
-add_scan_all : tie.Need-overflow-add-scan-all
+add_scan_all : tie.Need-overflow_add-at
 add_scan_all c = search rules
 
-shared_slice_read_scan_all : tie.Need-shared-slice-read-scan-all
+shared_slice_read_scan_all : tie.Need-bounds-t-at-2
 shared_slice_read_scan_all c =
     let p = c.before.before.before.before.before.requires in
-    let v = group_fits _ _ _ _ p.0.1 p.1 p.2 (sym c.before.before.is-group.ensures ∙ not-false _ c.before.if1.false) in
+    let v = group_fits _ _ _ _ p.0.1 p.1 p.2 (sym c.before.before.is_group.ensures ∙ not-false _ c.before.if-not-is_group.false-raw) in
     omega arith
 
-cast_scan_all : tie.Need-overflow-cast-scan-all
-cast_scan_all c = omega (arith, c.shared-slice-known3.given (c.before.before.before.before.before.args.at + 1))
+cast_scan_all : tie.Need-overflow_cast-t
+cast_scan_all c = omega (arith, c.shared_slice_known-3-1.given (c.before.before.before.before.before.args.at + 1))
 
-sub_scan_all : tie.Need-overflow-sub-scan-all
+sub_scan_all : tie.Need-overflow_sub-scan_all
 sub_scan_all c = search rules
 
-scan_all_requires : tie.Need-scan-all-requires
+scan_all_requires : tie.Need-scan_all-s-requires
 scan_all_requires c κs =
     let p = c.before.before.before.before.before.requires in
-    let v = group_fits _ _ _ _ p.0.1 p.1 p.2 (sym c.before.before.is-group.ensures ∙ not-false _ c.before.if1.false) in
+    let v = group_fits _ _ _ _ p.0.1 p.1 p.2 (sym c.before.before.is_group.ensures ∙ not-false _ c.before.if-not-is_group.false-raw) in
     ((omega (arith, p.0), p.0.1), p.2)
 
-returns_2 : tie.Need-returns-2
+returns_2 : tie.Need-returns-then-s-gt-FAULT
 returns_2 c =
     let read = c.before.before.before.before in
     let start = read.before.before.before in
     let a = start.args in
     let p = start.requires in
-    group_stopped a.sort a.t.now a.at _ p.0.1 p.2 _ c.before.scan-all.ensures p.1 (sym read.is-group.ensures ∙ not-false _ c.before.before.before.if1.false) c.if2.true
+    group_stopped a.sort a.t.now a.at _ p.0.1 p.2 _ c.before.scan_all-s.ensures p.1 (sym read.is_group.ensures ∙ not-false _ c.before.before.before.if-not-is_group.false-raw) c.if-s-gt-FAULT.true
 
-returns_3 : tie.Need-returns-3
+returns_3 : tie.Need-returns
 returns_3 c =
     let read = c.before.before.before.before in
     let start = read.before.before.before in
     let a = start.args in
     let p = start.requires in
-    group_ended a.sort a.t.now a.at _ p.0.1 p.2 _ c.before.scan-all.ensures p.1 (sym read.is-group.ensures ∙ not-false _ c.before.before.before.if1.false) c.if2.false
+    group_ended a.sort a.t.now a.at _ p.0.1 p.2 _ c.before.scan_all-s.ensures p.1 (sym read.is_group.ensures ∙ not-false _ c.before.before.before.if-not-is_group.false-raw) c.if-s-gt-FAULT.false
 
 pub rest_end_spec : {M : Type 1} → statement M
 rest_end_spec =

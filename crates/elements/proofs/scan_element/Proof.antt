@@ -11,49 +11,49 @@ use Rattle.elements.proofs.scan_element.Lts as lts
 use Rattle.elements.proofs.head_end.Reads as head-end-reads
 use Rattle.elements.proofs.rest_end.Reads as rest-end-reads
 
-returns : tie.Need-returns
+returns : tie.Need-returns-then-t-gt-TEMPLATE_MOST
 unfolding read_element
-returns c = too_long_lem c.before.before.args.t.now _ c.if1.true
+returns c = too_long_lem c.before.before.args.t.now _ c.if-t-gt-TEMPLATE_MOST.true
 
-head_end_requires : tie.Need-head-end-requires
+head_end_requires : tie.Need-head_end-head-requires
 head_end_requires c κs = search rules
 
-sub_result : tie.Need-overflow-sub-result
+sub_result : tie.Need-overflow_sub-result
 sub_result c = search rules
 
-cast_result : tie.Need-overflow-cast-result
+cast_result : tie.Need-overflow_cast-result
 cast_result c =
-    let v = head_stops _ _ _ _ (omega (arith, c.before.before.if1.false)) c.before.head-end.ensures c.if2.true in
+    let v = head_stops _ _ _ _ (omega (arith, c.before.before.if-t-gt-TEMPLATE_MOST.false)) c.before.head_end-head.ensures c.if-head-gt-FAULT.true in
     omega (arith, v.1)
 
-returns_2 : tie.Need-returns-2
+returns_2 : tie.Need-returns-then-head-gt-FAULT
 unfolding read_element
 returns_2 c =
-    answer_refused c.before.before.before.before.args.t.now _ c.before.before.if1.false _ _ _ (uncounted_ended _ _ _ (head_ended c.before.before.before.before.args.sort _ 0 _ (omega (arith, c.before.before.if1.false)) c.before.head-end.ensures c.if2.true)) (omega (arith, c.if2.true))
+    answer_refused c.before.before.before.before.args.t.now _ c.before.before.if-t-gt-TEMPLATE_MOST.false _ _ _ (uncounted_ended _ _ _ (head_ended c.before.before.before.before.args.sort _ 0 _ (omega (arith, c.before.before.if-t-gt-TEMPLATE_MOST.false)) c.before.head_end-head.ensures c.if-head-gt-FAULT.true)) (omega (arith, c.if-head-gt-FAULT.true))
 
-rest_end_requires : tie.Need-rest-end-requires
+rest_end_requires : tie.Need-rest_end-end-requires
 rest_end_requires c κs = search rules
 
-sub_result_2 : tie.Need-overflow-sub-result-2
+sub_result_2 : tie.Need-overflow_sub-result-then-end-gt-FAULT
 sub_result_2 c = search rules
 
-cast_result_2 : tie.Need-overflow-cast-result-2
-cast_result_2 c = omega (arith, noted_small _ _ _ _ _ c.before.rest-end.ensures)
+cast_result_2 : tie.Need-overflow_cast-result-then-end-gt-FAULT
+cast_result_2 c = omega (arith, noted_small _ _ _ _ _ c.before.rest_end-end.ensures)
 
-returns_3 : tie.Need-returns-3
+returns_3 : tie.Need-returns-then-end-gt-FAULT
 unfolding read_element
 returns_3 c =
-    answer_refused c.before.before.before.before.before.before.args.t.now _ c.before.before.before.before.if1.false _ _ _ (uncounted_ended _ _ _ c.before.rest-end.ensures) (omega (arith, c.if3.true))
+    answer_refused c.before.before.before.before.before.before.args.t.now _ c.before.before.before.before.if-t-gt-TEMPLATE_MOST.false _ _ _ (uncounted_ended _ _ _ c.before.rest_end-end.ensures) (omega (arith, c.if-end-gt-FAULT.true))
 
-returns_4 : tie.Need-returns-4
+returns_4 : tie.Need-returns-then-end-t
 unfolding read_element
 returns_4 c =
-    answer_left_over c.before.before.before.before.before.before.before.args.t.now _ c.before.before.before.before.before.if1.false _ _ _ (uncounted_ended _ _ _ c.before.before.rest-end.ensures) (omega (arith, c.before.if3.false)) c.if4.true
+    answer_left_over c.before.before.before.before.before.before.before.args.t.now _ c.before.before.before.before.before.if-t-gt-TEMPLATE_MOST.false _ _ _ (uncounted_ended _ _ _ c.before.before.rest_end-end.ensures) (omega (arith, c.before.if-end-gt-FAULT.false)) c.if-end-t.true
 
-returns_5 : tie.Need-returns-5
+returns_5 : tie.Need-returns
 unfolding read_element
 returns_5 c =
-    answer_accepted c.before.before.before.before.before.before.before.args.t.now _ c.before.before.before.before.before.if1.false _ _ _ (uncounted_ended _ _ _ c.before.before.rest-end.ensures) (omega (arith, c.before.if3.false)) c.if4.false
+    answer_accepted c.before.before.before.before.before.before.before.args.t.now _ c.before.before.before.before.before.if-t-gt-TEMPLATE_MOST.false _ _ _ (uncounted_ended _ _ _ c.before.before.rest_end-end.ensures) (omega (arith, c.before.if-end-gt-FAULT.false)) c.if-end-t.false
 
 pub scan_element_spec : {M : Type 1} → statement M
 scan_element_spec =

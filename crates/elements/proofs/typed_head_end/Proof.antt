@@ -17,20 +17,20 @@ use Rattle.elements.proofs.refusal.Reads as refusal-reads
 use Rattle.leaves.proofs.bounds_at.Reads as bounds-at-reads
 use Rattle.sorts.proofs.reaches.Reads as reaches-reads
 
-integer_head_end_requires : tie.Need-integer-head-end-requires
+integer_head_end_requires : tie.Need-integer_head_end-end-requires
 integer_head_end_requires c κs = search rules
 
-returns : tie.Need-returns
-returns c = let s = c.before.before.before in typed_fault _ _ s.args.t.now s.args.at _ s.requires.1 c.before.integer-head-end.ensures c.if1.true
+returns : tie.Need-returns-then-end-gt-FAULT
+returns c = let s = c.before.before.before in typed_fault _ _ s.args.t.now s.args.at _ s.requires.1 c.before.integer_head_end-end.ensures c.if-end-gt-FAULT.true
 
-shared_slice_read_kind : tie.Need-shared-slice-read-kind
-shared_slice_read_kind c = let s = c.before.before.before.before in head_some leaf_head s.args.t.now s.args.at _ s.requires.1 c.before.before.integer-head-end.ensures c.before.if1.false
+shared_slice_read_kind : tie.Need-bounds-t-at
+shared_slice_read_kind c = let s = c.before.before.before.before in head_some leaf_head s.args.t.now s.args.at _ s.requires.1 c.before.before.integer_head_end-end.ensures c.before.if-end-gt-FAULT.false
 
-returns_2 : tie.Need-returns-2
-returns_2 c = let s = c.before.before.before.before.before in typed_plain _ _ s.args.t.now s.args.at _ s.requires.1 c.before.before.if1.false c.before.before.before.integer-head-end.ensures c.if2.true
+returns_2 : tie.Need-returns-then-kind-ge-ANY
+returns_2 c = let s = c.before.before.before.before.before in typed_plain _ _ s.args.t.now s.args.at _ s.requires.1 c.before.before.if-end-gt-FAULT.false c.before.before.before.integer_head_end-end.ensures c.if-kind-ge-ANY.true
 
-bounds_at_requires : tie.Need-bounds-at-requires
-bounds_at_requires c κs = let s = c.before.before.before.before.before in leaf_here_lem (lower_of s.args.sort) (upper_of s.args.sort) s.args.t.now s.args.at _ s.requires.1 c.before.before.if1.false c.before.before.before.integer-head-end.ensures c.if2.false
+bounds_at_requires : tie.Need-bounds_at-l-requires
+bounds_at_requires c κs = let s = c.before.before.before.before.before in leaf_here_lem (lower_of s.args.sort) (upper_of s.args.sort) s.args.t.now s.args.at _ s.requires.1 c.before.before.if-end-gt-FAULT.false c.before.before.before.integer_head_end-end.ensures c.if-kind-ge-ANY.false
 
 reaches_requires : tie.Need-reaches-requires
 reaches_requires c κs = search rules
@@ -39,25 +39,25 @@ refusal_requires : tie.Need-refusal-requires
 refusal_requires c κs = search rules
 
 -- the bounds, read again out of the struct
-told : (c : tie.After-reaches) → c.reaches.result ≡ (lt_z c.before.before.before.bounds-at.result.lower (lower_of c.before.before.before.before.before.before.before.before.before.args.sort) || lt_z (upper_of c.before.before.before.before.before.before.before.before.before.args.sort) c.before.before.before.bounds-at.result.upper)
+told : (c : tie.After-reaches) → c.reaches.result ≡ (lt_z c.before.before.before.bounds_at-l.result.lower (lower_of c.before.before.before.before.before.before.before.before.before.args.sort) || lt_z (upper_of c.before.before.before.before.before.before.before.before.before.args.sort) c.before.before.before.bounds_at-l.result.upper)
 told c =
-    let g = c.before.before.struct_told.given in
-    let b = c.before.before.before.bounds-at.result in
+    let g = c.before.before.struct_told-1.given in
+    let b = c.before.before.before.bounds_at-l.result in
     c.reaches.ensures ∙ rw (again_same b.lower g.0.1, again_same b.upper g.1.0.1)
 
-returns_3 : tie.Need-returns-3
+returns_3 : tie.Need-returns-then-reaches
 returns_3 c =
     let read = c.before.before.before.before.before in
     let w = read.before in
     let s = w.before.before.before.before.before in
-    typed_outside _ _ s.args.t.now s.args.at _ s.requires.1 w.before.before.if1.false _ _ _ read.bounds-at.ensures w.if2.false _ c.refusal.ensures w.before.before.before.integer-head-end.ensures (sym (told c.before.before) ∙ c.before.if3.true)
+    typed_outside _ _ s.args.t.now s.args.at _ s.requires.1 w.before.before.if-end-gt-FAULT.false _ _ _ read.bounds_at-l.ensures w.if-kind-ge-ANY.false _ c.refusal.ensures w.before.before.before.integer_head_end-end.ensures (sym (told c.before.before) ∙ c.before.if-reaches.true)
 
-returns_4 : tie.Need-returns-4
+returns_4 : tie.Need-returns
 returns_4 c =
     let read = c.before.before.before.before in
     let w = read.before in
     let s = w.before.before.before.before.before in
-    typed_inside _ _ s.args.t.now s.args.at _ s.requires.1 w.before.before.if1.false _ _ _ read.bounds-at.ensures w.if2.false w.before.before.before.integer-head-end.ensures (sym (told c.before) ∙ c.if3.false)
+    typed_inside _ _ s.args.t.now s.args.at _ s.requires.1 w.before.before.if-end-gt-FAULT.false _ _ _ read.bounds_at-l.ensures w.if-kind-ge-ANY.false w.before.before.before.integer_head_end-end.ensures (sym (told c.before) ∙ c.if-reaches.false)
 
 pub typed_head_end_spec : {M : Type 1} → statement M
 typed_head_end_spec =

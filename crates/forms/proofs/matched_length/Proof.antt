@@ -27,43 +27,43 @@ size c = length_view _ _ _ c.requires.1 c.requires.2
 alone : (c : tie.Start) → c.args.n ≡ 1 → all c ≡ span (get_or c.args.lo.now 0 (pos 0)) (get_or c.args.hi.now 0 (pos 0)) ∷ []
 alone c e = view_one _ _ _ e c.requires.1 c.requires.2
 
-add_result : tie.Need-add-result
+add_result : tie.Need-overflow_add-result
 add_result c = search rules
 
-returns : tie.Need-returns
+returns : tie.Need-returns-then-n-eq0
 returns c =
     let s = c.before in
-    sym (matched_none (all s) (view_none _ _ _ c.if1.taken)).0
+    sym (matched_none (all s) (view_none _ _ _ c.if-n-eq0.true)).0
 
-shared_slice_copy_out_a : tie.Need-shared-slice-copy-out-a
+shared_slice_copy_out_a : tie.Need-bounds-lo-0
 shared_slice_copy_out_a c = search rules
 
-shared_slice_copy_out_b : tie.Need-shared-slice-copy-out-b
+shared_slice_copy_out_b : tie.Need-bounds-hi-0
 shared_slice_copy_out_b c = search rules
 
-record_length_requires : tie.Need-record-length-requires
+record_length_requires : tie.Need-record_length-requires
 record_length_requires c κs = search rules
 
-returns_2 : tie.Need-returns-2
+returns_2 : tie.Need-returns-then-n-eq1
 returns_2 c =
     let u = c.before.before.before.before.before in
     let a : ℤ = get_or u.args.lo.now 0 (pos 0) in
     let b : ℤ = get_or u.args.hi.now 0 (pos 0) in
-    c.record-length.ensures ∙ ap₂ (λ (x y : ℤ). record_length (span x y)) (again_same a c.before.before.a.given) (again_same b c.before.b.given)
-    ∙ sym (matched_one (all u) (span a b) (alone u c.before.before.before.if2.taken)).0
+    c.record_length.ensures ∙ ap₂ (λ (x y : ℤ). record_length (span x y)) (again_same a c.before.before.a-1.given) (again_same b c.before.b-1.given)
+    ∙ sym (matched_one (all u) (span a b) (alone u c.before.before.before.if-n-eq1.true)).0
 
-records_length_requires : tie.Need-records-length-requires
+records_length_requires : tie.Need-records_length-requires
 records_length_requires c κs = search rules
 
-add_result_2 : tie.Need-add-result-2
+add_result_2 : tie.Need-overflow_add-result-2
 add_result_2 c =
     let s = c.before.before.before in
-    omega (arith, c.records-length.ensures, records_length_most (all s), size s)
+    omega (arith, c.records_length.ensures, records_length_most (all s), size s)
 
-returns_3 : tie.Need-returns-3
+returns_3 : tie.Need-returns
 returns_3 c =
     let s = c.before.before.before in
-    ap (λ (n : ℕ). 2 + n) c.records-length.ensures ∙ sym (matched_more (all s) (several s.args.n _ (size s) c.before.before.if1.left c.before.if2.left)).0
+    ap (λ (n : ℕ). 2 + n) c.records_length.ensures ∙ sym (matched_more (all s) (several s.args.n _ (size s) c.before.before.if-n-eq0.false c.before.if-n-eq1.false)).0
 
 pub matched_length_spec : {M : Type 1} → statement M
 matched_length_spec =

@@ -21,23 +21,23 @@ side_room outside b rs n e h = rw (sym e) h
 abbrev all : tie.Start → List Span
 all c = view c.args.n c.args.lo.now c.args.hi.now
 
-put_unmatched_requires : tie.Need-put-unmatched-requires
-put_unmatched_requires c κs = (c.before.before.before.requires.0, side_room _ true (all c.before.before.before) _ c.before.if1.taken c.before.before.before.requires.1)
+put_unmatched_requires : tie.Need-put_unmatched-requires
+put_unmatched_requires c κs = (c.before.before.before.requires.0, side_room _ true (all c.before.before.before) _ c.before.if-outside.true c.before.before.before.requires.1)
 
-put_matched_requires : tie.Need-put-matched-requires
-put_matched_requires c κs = (c.before.before.before.requires.0, side_room _ false (all c.before.before.before) _ c.before.if1.left c.before.before.before.requires.1)
+put_matched_requires : tie.Need-put_matched-requires
+put_matched_requires c κs = (c.before.before.before.requires.0, side_room _ false (all c.before.before.before) _ c.before.if-outside.false c.before.before.before.requires.1)
 
-same_length : tie.Need-same-length
+same_length : tie.Need-shape_of-out-then-outside
 same_length c = search rules
 
-returns : tie.Need-returns
-returns c = side_done _ true (all c.before.before.before.before.before.before) _ _ c.before.before.before.before.if1.taken c.before.before.put-unmatched.ensures
+returns : tie.Need-returns-then-outside
+returns c = side_done _ true (all c.before.before.before.before.before.before) _ _ c.before.before.before.before.if-outside.true c.before.before.put_unmatched.ensures
 
-same_length_2 : tie.Need-same-length-2
+same_length_2 : tie.Need-shape_of-out-else-outside
 same_length_2 c = search rules
 
-returns_2 : tie.Need-returns-2
-returns_2 c = side_done _ false (all c.before.before.before.before.before.before) _ _ c.before.before.before.before.if1.left c.before.before.put-matched.ensures
+returns_2 : tie.Need-returns-else-outside
+returns_2 c = side_done _ false (all c.before.before.before.before.before.before) _ _ c.before.before.before.before.if-outside.false c.before.before.put_matched.ensures
 
 pub put_form_spec : {M : Type 1} → statement M
 put_form_spec =

@@ -43,55 +43,55 @@ module _ (c : tie.Start) where
       let m = matched_more s (several n (length s) size z o) in
       (m.0, m.1 ∙ ap (λ (m : ℕ). 0x04 ∷ m ∷ records s) size)
 
-put_nothing_requires : tie.Need-put-nothing-requires
+put_nothing_requires : tie.Need-put_nothing-requires
 put_nothing_requires c κs =
     let u = c.before.before.before in
-    omega (arith, u.requires.1, (matched_none (s u) (none_there u c.before.if1.taken)).0)
+    omega (arith, u.requires.1, (matched_none (s u) (none_there u c.before.if-n-eq0.true)).0)
 
-shared_slice_copy_out_a : tie.Need-shared-slice-copy-out-a
+shared_slice_copy_out_a : tie.Need-bounds-lo-0
 shared_slice_copy_out_a c = search rules
 
-shared_slice_copy_out_b : tie.Need-shared-slice-copy-out-b
+shared_slice_copy_out_b : tie.Need-bounds-hi-0
 shared_slice_copy_out_b c = search rules
 
-put_record_requires : tie.Need-put-record-requires
+put_record_requires : tie.Need-put_record-requires
 put_record_requires c κs =
     let u = c.before.before.before.before.before.before in
-    rw (again_same (a u) c.before.before.a.given, again_same (b u) c.before.b.given) (omega (arith, u.requires.1, (one_there u c.before.before.before.if2.taken).0))
+    rw (again_same (a u) c.before.before.a-1.given, again_same (b u) c.before.b-1.given) (omega (arith, u.requires.1, (one_there u c.before.before.before.if-n-eq1.true).0))
 
-put_group_requires : tie.Need-put-group-requires
+put_group_requires : tie.Need-put_group-requires
 put_group_requires c κs =
     let u = c.before.before.before.before in
-    (u.requires.0, omega (arith, u.requires.1, (more_there u c.before.before.if1.left c.before.if2.left).0))
+    (u.requires.0, omega (arith, u.requires.1, (more_there u c.before.before.if-n-eq0.false c.before.if-n-eq1.false).0))
 
-same_length : tie.Need-same-length
+same_length : tie.Need-shape_of-out-then-n-eq0
 same_length c = search rules
 
-returns : tie.Need-returns
+returns : tie.Need-returns-then-n-eq0
 returns c =
     let u = c.before.before.before.before.before.before in
-    let m = matched_none (s u) (none_there u c.before.before.before.before.if1.taken) in
-    form_put _ u.args.out.now _ _ _ _ m.1 m.0 c.before.before.put-nothing.ensures
+    let m = matched_none (s u) (none_there u c.before.before.before.before.if-n-eq0.true) in
+    form_put _ u.args.out.now _ _ _ _ m.1 m.0 c.before.before.put_nothing.ensures
 
-same_length_2 : tie.Need-same-length-2
+same_length_2 : tie.Need-shape_of-out-then-n-eq1
 same_length_2 c = search rules
 
-returns_2 : tie.Need-returns-2
+returns_2 : tie.Need-returns-then-n-eq1
 returns_2 c =
     let u = c.before.before.before.before.before.before.before.before.before in
-    let m = one_there u c.before.before.before.before.before.before.if2.taken in
-    let e : c.before.before.put_record.last.0 ≡ record_of (span (a u) (b u)) ++ drop (record_length (span (a u) (b u))) u.args.out.now =
-    c.before.before.put_record.ensures ∙ rw (again_same (a u) c.before.before.before.before.before.a.given, again_same (b u) c.before.before.before.before.b.given) in
+    let m = one_there u c.before.before.before.before.before.before.if-n-eq1.true in
+    let e : c.before.before.put_record.new.out ≡ record_of (span (a u) (b u)) ++ drop (record_length (span (a u) (b u))) u.args.out.now =
+    c.before.before.put_record.ensures ∙ rw (again_same (a u) c.before.before.before.before.before.a-1.given, again_same (b u) c.before.before.before.before.b-1.given) in
     form_put _ u.args.out.now _ _ _ _ m.1 m.0 e
 
-same_length_3 : tie.Need-same-length-3
+same_length_3 : tie.Need-shape_of-out-else-n-eq1
 same_length_3 c = search rules
 
-returns_3 : tie.Need-returns-3
+returns_3 : tie.Need-returns-else-n-eq1
 returns_3 c =
     let u = c.before.before.before.before.before.before.before in
-    let m = more_there u c.before.before.before.before.before.if1.left c.before.before.before.before.if2.left in
-    form_put _ u.args.out.now _ _ _ _ m.1 m.0 c.before.before.put-group.ensures
+    let m = more_there u c.before.before.before.before.before.if-n-eq0.false c.before.before.before.before.if-n-eq1.false in
+    form_put _ u.args.out.now _ _ _ _ m.1 m.0 c.before.before.put_group.ensures
 
 pub put_matched_spec : {M : Type 1} → statement M
 put_matched_spec =

@@ -21,16 +21,16 @@ module _ (c : tie.Start) where
   three_bytes : Put o (set (set (set o 0 0x05) 1 0x01) 2 0x03) (0x05 ∷ 0x01 ∷ 0x03 ∷ []) 3
   three_bytes = put_byte o _ _ 2 two_bytes 0x03 (omega (arith, c.requires))
 
-slice_write_out : tie.Need-slice-write-out
+slice_write_out : tie.Need-bounds-out-0
 slice_write_out c = search rules
 
-slice_write_out_2 : tie.Need-slice-write-out-2
+slice_write_out_2 : tie.Need-bounds-out-1
 slice_write_out_2 c = omega (arith, put_length _ _ _ _ (one_byte c), c.requires)
 
-slice_write_out_3 : tie.Need-slice-write-out-3
+slice_write_out_3 : tie.Need-bounds-out-2
 slice_write_out_3 c = omega (arith, put_length _ _ _ _ (two_bytes c), c.requires)
 
-same_length : tie.Need-same-length
+same_length : tie.Need-shape_of-out
 same_length c = put_length _ _ _ _ (three_bytes c)
 
 returns : tie.Need-returns

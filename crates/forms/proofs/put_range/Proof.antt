@@ -13,32 +13,32 @@ use Rattle.facts.proofs.Puts.{Put, put_none, put_length, put_byte, lent_length, 
 use Rattle.forms.proofs.put_range.Statement.{statement}
 use Rattle.forms.proofs.put_range.Tie as tie
 
-slice_write_out : tie.Need-slice-write-out
+slice_write_out : tie.Need-bounds-out-0
 slice_write_out c = search rules
 
 -- after the first byte
 begun : (c : tie.Start) → Put c.args.out.now (set c.args.out.now 0 0x02) (0x02 ∷ []) 1
 begun c = put_byte c.args.out.now c.args.out.now [] 0 (put_none c.args.out.now) 0x02 (omega (arith, c.requires))
 
-sub_put_int : tie.Need-overflow-sub-put-int
+sub_put_int : tie.Need-slice_bounds-put_int-count
 sub_put_int c = omega (arith, put_length _ _ _ _ (begun c.before), c.before.requires)
 
-part_put_int_start : tie.Need-slice-bounds-put-int-start
+part_put_int_start : tie.Need-slice_bounds-put_int-start
 part_put_int_start c = omega (arith, put_length _ _ _ _ (begun c.before), c.before.requires)
 
-part_put_int_end : tie.Need-slice-bounds-put-int-end
+part_put_int_end : tie.Need-slice_bounds-put_int-end
 part_put_int_end c = search rules
 
-put_int_requires : tie.Need-put-int-requires
+put_int_requires : tie.Need-put_int-requires
 put_int_requires c κs = omega (arith, lent_length _ _ _ _ (begun c.before.before), c.before.before.requires)
 
 -- after the lower bound
-abbrev half : tie.After-slice-known2 → List ℕ
+abbrev half : tie.After-slice_known-2-1 → List ℕ
 half c =
     let o = set c.before.before.before.before.before.args.out.now 0 0x02 in
-    put_mid 1 (length o - 1) o c.before.before.put-int.new.0
+    put_mid 1 (length o - 1) o c.before.before.put_int.new.out
 
-halved : (c : tie.After-slice-known2) →
+halved : (c : tie.After-slice_known-2-1) →
     let s = c.before.before.before.before.before in
     Put s.args.out.now (half c) (0x02 ∷ int_bytes s.args.lower) 5
 halved c =
@@ -46,33 +46,33 @@ halved c =
     let o = s.args.out.now in
     let x = s.args.lower in
     put_more o (set o 0 0x02) (0x02 ∷ []) 1 (begun s) (int_bytes x) _ 4 (length_int_bytes x) (omega (arith, s.requires))
-    (c.before.before.put-int.ensures ∙ rw (again_same x s.ranges.lower.sfits))
+    (c.before.before.put_int.ensures ∙ rw (again_same x s.ranges.lower.sfits))
 
-sub_put_int_2 : tie.Need-overflow-sub-put-int-2
+sub_put_int_2 : tie.Need-slice_bounds-put_int-count-2
 sub_put_int_2 c = omega (arith, put_length _ _ _ _ (halved c), c.before.before.before.before.before.requires)
 
-part_put_int_start_2 : tie.Need-slice-bounds-put-int-start-2
+part_put_int_start_2 : tie.Need-slice_bounds-put_int-start-2
 part_put_int_start_2 c = omega (arith, put_length _ _ _ _ (halved c), c.before.before.before.before.before.requires)
 
-part_put_int_end_2 : tie.Need-slice-bounds-put-int-end-2
+part_put_int_end_2 : tie.Need-slice_bounds-put_int-end-2
 part_put_int_end_2 c = search rules
 
-put_int_requires_2 : tie.Need-put-int-requires-2
+put_int_requires_2 : tie.Need-put_int-requires-2
 put_int_requires_2 c κs = omega (arith, lent_length _ _ _ _ (halved c.before), c.before.before.before.before.before.before.requires)
 
 -- after the upper bound
-written : (c : tie.After-slice-known3) →
+written : (c : tie.After-slice_known-3-1) →
     let h = c.before.before.before.before in
     let s = h.before.before.before.before.before in
-    Put s.args.out.now (put_mid 5 (length (half h) - 5) (half h) c.before.before.put-int2.new.0) ((0x02 ∷ int_bytes s.args.lower) ++ int_bytes s.args.upper) 9
+    Put s.args.out.now (put_mid 5 (length (half h) - 5) (half h) c.before.before.put_int-2.new.out) ((0x02 ∷ int_bytes s.args.lower) ++ int_bytes s.args.upper) 9
 written c =
     let h = c.before.before.before.before in
     let s = h.before.before.before.before.before in
     let x = s.args.upper in
     put_more s.args.out.now (half h) (0x02 ∷ int_bytes s.args.lower) 5 (halved h) (int_bytes x) _ 4 (length_int_bytes x) s.requires
-    (c.before.before.put-int2.ensures ∙ rw (again_same x s.ranges.upper.sfits))
+    (c.before.before.put_int-2.ensures ∙ rw (again_same x s.ranges.upper.sfits))
 
-same_length : tie.Need-same-length
+same_length : tie.Need-shape_of-out
 same_length c = put_length _ _ _ _ (written c)
 
 returns : tie.Need-returns

@@ -36,36 +36,36 @@ module _ (c : tie.Start) where
   one_byte : 0 < length c.args.out.now → Put c.args.out.now (set c.args.out.now 0 0x03) (0x03 ∷ []) 1
   one_byte h = put_byte c.args.out.now c.args.out.now [] 0 (put_none c.args.out.now) 0x03 h
 
-room_there : (c : tie.Then1) → 0 < length c.before.before.args.out.now
+room_there : (c : tie.Then-n-eq0) → 0 < length c.before.before.args.out.now
 room_there c =
     let u = c.before.before in
-    omega (arith, u.requires.1, (unmatched_none (s u) (none_there u c.if1.taken)).0)
+    omega (arith, u.requires.1, (unmatched_none (s u) (none_there u c.if-n-eq0.true)).0)
 
-slice_write_out : tie.Need-slice-write-out
+slice_write_out : tie.Need-bounds-out-0
 slice_write_out c = room_there c
 
-put_group_requires : tie.Need-put-group-requires
+put_group_requires : tie.Need-put_group-requires
 put_group_requires c κs =
     let u = c.before.before.before in
-    (u.requires.0, omega (arith, u.requires.1, (some_there u c.before.if1.left).0))
+    (u.requires.0, omega (arith, u.requires.1, (some_there u c.before.if-n-eq0.false).0))
 
-same_length : tie.Need-same-length
+same_length : tie.Need-shape_of-out-then-n-eq0
 same_length c = search rules
 
-returns : tie.Need-returns
+returns : tie.Need-returns-then-n-eq0
 returns c =
     let u = c.before.before in
-    let m = unmatched_none (s u) (none_there u c.if1.taken) in
+    let m = unmatched_none (s u) (none_there u c.if-n-eq0.true) in
     form_put _ u.args.out.now _ _ _ _ m.1 m.0 (one_byte u (room_there c)).is
 
-same_length_2 : tie.Need-same-length-2
+same_length_2 : tie.Need-shape_of-out-else-n-eq0
 same_length_2 c = search rules
 
-returns_2 : tie.Need-returns-2
+returns_2 : tie.Need-returns-else-n-eq0
 returns_2 c =
     let u = c.before.before.before.before.before.before in
-    let m = some_there u c.before.before.before.before.if1.left in
-    form_put _ u.args.out.now _ _ _ _ m.1 m.0 c.before.before.put-group.ensures
+    let m = some_there u c.before.before.before.before.if-n-eq0.false in
+    form_put _ u.args.out.now _ _ _ _ m.1 m.0 c.before.before.put_group.ensures
 
 pub put_unmatched_spec : {M : Type 1} → statement M
 put_unmatched_spec =

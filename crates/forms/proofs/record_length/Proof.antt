@@ -14,11 +14,11 @@ told c =
     let s = c.before in
     c.same.ensures ∙ rw (again_same s.args.lower s.ranges.lower.sfits, again_same s.args.upper s.ranges.upper.sfits)
 
-returns : tie.Need-returns
-returns c = rw (sym (told c.before) ∙ c.if1.true)
+returns : tie.Need-returns-then-same
+returns c = rw (sym (told c.before) ∙ c.if-same.true)
 
-returns_2 : tie.Need-returns-2
-returns_2 c = rw (sym (told c.before) ∙ c.if1.false)
+returns_2 : tie.Need-returns-else-same
+returns_2 c = rw (sym (told c.before) ∙ c.if-same.false)
 
 pub record_length_spec : {M : Type 1} → statement M
 record_length_spec = tie.close (tie.spec same_requires returns returns_2)

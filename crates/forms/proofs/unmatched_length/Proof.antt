@@ -20,23 +20,23 @@ all c = view c.args.n c.args.lo.now c.args.hi.now
 size : (c : tie.Start) → length (all c) ≡ c.args.n
 size c = length_view _ _ _ c.requires.1 c.requires.2
 
-returns : tie.Need-returns
+returns : tie.Need-returns-then-n-eq0
 returns c =
     let s = c.before in
-    sym (unmatched_none (all s) (view_none _ _ _ c.if1.taken)).0
+    sym (unmatched_none (all s) (view_none _ _ _ c.if-n-eq0.true)).0
 
-records_length_requires : tie.Need-records-length-requires
+records_length_requires : tie.Need-records_length-requires
 records_length_requires c κs = search rules
 
-add_result : tie.Need-add-result
+add_result : tie.Need-overflow_add-result
 add_result c =
     let s = c.before.before in
-    omega (arith, c.records-length.ensures, records_length_most (all s), size s)
+    omega (arith, c.records_length.ensures, records_length_most (all s), size s)
 
-returns_2 : tie.Need-returns-2
+returns_2 : tie.Need-returns
 returns_2 c =
     let s = c.before.before in
-    ap (λ (n : ℕ). 2 + n) c.records-length.ensures ∙ sym (unmatched_some (all s) (not_none s.args.n _ (size s) c.before.if1.left)).0
+    ap (λ (n : ℕ). 2 + n) c.records_length.ensures ∙ sym (unmatched_some (all s) (not_none s.args.n _ (size s) c.before.if-n-eq0.false)).0
 
 pub unmatched_length_spec : {M : Type 1} → statement M
 unmatched_length_spec = tie.close (tie.spec returns records_length_requires add_result returns_2)

@@ -5,23 +5,23 @@ use borrow.Author.Rules.{rules}
 use Rattle.fronts.proofs.after_one.Statement.{statement}
 use Rattle.fronts.proofs.after_one.Tie as tie
 
-lowest_place_requires : tie.Need-lowest-place-requires
+lowest_place_requires : tie.Need-lowest_place-q-requires
 lowest_place_requires c κs = search rules
 
-element_write_w : tie.Need-element-write-w
-element_write_w c = let p = c.before.requires.3 _ c.lowest-place.ensures.inside in omega arith
+element_write_w : tie.Need-bounds-w-q
+element_write_w c = let p = c.before.requires.3 _ c.lowest_place-q.ensures.inside in omega arith
 
-add_with_place : tie.Need-overflow-add-with-place
+add_with_place : tie.Need-overflow_add-q
 add_with_place c = search rules
 
-with_place_requires : tie.Need-with-place-requires
-with_place_requires c κs = let p = c.before.requires.3 _ c.lowest-place.ensures.inside in omega arith
+with_place_requires : tie.Need-with_place-requires
+with_place_requires c κs = let p = c.before.requires.3 _ c.lowest_place-q.ensures.inside in omega arith
 
 add_t9 : tie.Need-overflow-add-t9
 add_t9 c = search rules
 
 returns : tie.Need-returns
-returns c = let s = c.before.before in λ may ends low lead. one_moved _ s.requires.0 s.requires.1 low lead s.requires.4 c.before.lowest-place.ensures c.with-place.ensures
+returns c = let s = c.before.before in λ may ends low lead. one_moved _ s.requires.0 s.requires.1 low lead s.requires.4 c.before.lowest_place-q.ensures c.with_place.ensures
 
 pub after_one_spec : {M : Type 1} → statement M
 after_one_spec =

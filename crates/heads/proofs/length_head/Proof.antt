@@ -35,7 +35,7 @@ returns_2 c =
     let bounds = c.before.before in
     let told = bounds.before.before in
     let s = told.before.before in
-    λ fam a said. heads_fault _ (length_fault a s.args.t.now s.args.h.next _ told.kind_at.ensures bounds.before.if1.false _ bounds.bounds_fault_lem.ensures c.before.if2.true) (omega (arith, c.before.if2.true)) c.refused-heads.ensures
+    λ fam a said. heads_fault _ (length_fault a s.args.t.now s.args.h.next _ told.kind_at.ensures bounds.before.if1.false _ bounds.bounds_fault.ensures c.before.if2.true) (omega (arith, c.before.if2.true)) c.refused-heads.ensures
 
 add_t8 : tie.Need-overflow-add-t8
 add_t8 c = search rules
@@ -45,7 +45,7 @@ add_t9 c = search rules
 
 -- the attribute is all there
 fits : (c : tie.Else2) → let s = c.before.before.before.before.before in s.args.h.next + 3 ≤ length s.args.t.now
-fits c = let s = c.before.before.before.before.before in bounds_inv s.args.t.now s.args.h.next (sym c.before.bounds_fault_lem.ensures ∙ c.if2.false)
+fits c = let s = c.before.before.before.before.before in bounds_inv s.args.t.now s.args.h.next (sym c.before.bounds_fault.ensures ∙ c.if2.false)
 
 shared_slice_read_t6 : tie.Need-shared-slice-read-t6
 shared_slice_read_t6 c = omega (arith, fits c.before.before)
@@ -62,7 +62,7 @@ returns_3 c =
     let bounds = zero.before in
     let told = bounds.before.before in
     let s = told.before.before in
-    λ fam a said. heads_read _ (length_read a s.args.t.now s.args.h.next _ told.kind_at.ensures bounds.before.if1.false _ bounds.bounds_fault_lem.ensures zero.if2.false) refl (fits zero)
+    λ fam a said. heads_read _ (length_read a s.args.t.now s.args.h.next _ told.kind_at.ensures bounds.before.if1.false _ bounds.bounds_fault.ensures zero.if2.false) refl (fits zero)
     (record { sheet = said.sheet; attribute = refl; bounds = record { lower = refl; upper = refl }; order = said.order; sort = said.sort })
 
 pub length_head_spec : {M : Type 1} → statement M

@@ -41,7 +41,7 @@ returns_2 c =
     let fault = c.before.before in
     let told = fault.before.before in
     let t = told.before.before.args.t.now in
-    heads_fault _ (sheet_fault_lem no_heads t _ told.kind_at.ensures fault.before.if1.false _ fault.sheet_fault_lem.ensures c.before.if2.true) (omega (arith, c.before.if2.true)) c.refused-heads.ensures
+    heads_fault _ (sheet_fault_lem no_heads t _ told.kind_at.ensures fault.before.if1.false _ fault.sheet_fault.ensures c.before.if2.true) (omega (arith, c.before.if2.true)) c.refused-heads.ensures
 
 no_heads_requires_2 : tie.Need-no-heads-requires-2
 no_heads_requires_2 c κs = search rules
@@ -49,7 +49,7 @@ no_heads_requires_2 c κs = search rules
 shared_slice_read_t6 : tie.Need-shared-slice-read-t6
 shared_slice_read_t6 c =
     let zero = c.before.before.before in
-    omega (arith, sheet_inv zero.before.before.before.before.before.args.t.now (sym zero.before.sheet_fault_lem.ensures ∙ zero.if2.false))
+    omega (arith, sheet_inv zero.before.before.before.before.before.args.t.now (sym zero.before.sheet_fault.ensures ∙ zero.if2.false))
 
 returns_3 : tie.Need-returns-3
 returns_3 c =
@@ -59,7 +59,7 @@ returns_3 c =
     let told = fault.before.before in
     let t = told.before.before.args.t.now in
     let said = none.no-heads2.ensures.said in
-    heads_read _ (sheet_read no_heads t _ told.kind_at.ensures fault.before.if1.false _ fault.sheet_fault_lem.ensures zero.if2.false) refl (sheet_inv t (sym fault.sheet_fault_lem.ensures ∙ zero.if2.false))
+    heads_read _ (sheet_read no_heads t _ told.kind_at.ensures fault.before.if1.false _ fault.sheet_fault.ensures zero.if2.false) refl (sheet_inv t (sym fault.sheet_fault.ensures ∙ zero.if2.false))
     (record { sheet = refl; attribute = said.attribute; bounds = said.bounds; order = said.order; sort = said.sort })
 
 pub sheet_head_spec : {M : Type 1} → statement M

@@ -29,13 +29,13 @@ returns : tie.Need-returns
 returns c =
     let told = c.before.before in
     let s = told.before.before in
-    λ a said. heads_fault _ (type_fault_lem a s.args.t.now s.args.h.next s.requires.2 _ told.type_fault_lem.ensures c.before.if1.true) (omega (arith, c.before.if1.true)) c.refused-heads.ensures
+    λ a said. heads_fault _ (type_fault_lem a s.args.t.now s.args.h.next s.requires.2 _ told.type_fault.ensures c.before.if1.true) (omega (arith, c.before.if1.true)) c.refused-heads.ensures
 
 add_int_at : tie.Need-overflow-add-int-at
 add_int_at c = search rules
 
 there : (c : tie.Else1) → Ordered c.before.before.before.args.t.now c.before.before.before.args.h.next
-there c = let s = c.before.before.before in type_inv s.args.t.now s.args.h.next (sym c.before.type_fault_lem.ensures ∙ c.if1.false)
+there c = let s = c.before.before.before in type_inv s.args.t.now s.args.h.next (sym c.before.type_fault.ensures ∙ c.if1.false)
 
 int_at_requires : tie.Need-int-at-requires
 int_at_requires c κs = let o = there c in omega (arith, o.fits)
@@ -62,7 +62,7 @@ returns_2 c =
     let o = there else1 in
     let low = c.before.before.Int-at in
     let high = c.before.int-at2 in
-    λ a said. heads_read _ (type_read a t at s.requires.2 _ told.type_fault_lem.ensures else1.if1.false) refl o.fits
+    λ a said. heads_read _ (type_read a t at s.requires.2 _ told.type_fault.ensures else1.if1.false) refl o.fits
     (record {
       sheet = said.sheet;
       attribute = said.attribute;

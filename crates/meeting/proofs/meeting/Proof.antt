@@ -24,36 +24,36 @@ fault_requires c κs = search rules
 refused_requires : tie.Need-refused-requires
 refused_requires c κs = search rules
 
-returns : tie.Need-returns
+returns : tie.Need-returns-then-upper-lower
 returns c =
     let t = c.before.before in
     let s = t.before.before.before.before in
-    let reversed = rw (low_same s, high_same s) at t.if1.true in
-    let number = rw (low_same s, high_same s) at c.before.fault.ensures in
+    let reversed = rw (low_same s, high_same s) at t.if-upper-lower.true in
+    let number = rw (low_same s, high_same s) at c.fault.ensures in
     rw (c.refused.ensures.0, c.refused.ensures.1, number)
     (fault_is s.args.lower s.args.upper s.ranges.lower.sfits s.ranges.upper.sfits s.args.first.now s.args.second.now s.args.room.now (λ e. absurd (clash reversed e)))
 
-slice_aggregate_read_form : tie.Need-slice-aggregate-read-form
+slice_aggregate_read_form : tie.Need-slice_bounds-read_form-end
 slice_aggregate_read_form c = search rules
 
-slice_aggregate_read_form_2 : tie.Need-slice-aggregate-read-form-2
+slice_aggregate_read_form_2 : tie.Need-slice_bounds-read_form-end-2
 slice_aggregate_read_form_2 c = search rules
 
-read_form_requires : tie.Need-read-form-requires
+read_form_requires : tie.Need-read_form-a-requires
 read_form_requires c κs = search rules
 
-slice_aggregate_read_form_3 : tie.Need-slice-aggregate-read-form-3
+slice_aggregate_read_form_3 : tie.Need-slice_bounds-read_form-end-3
 slice_aggregate_read_form_3 c = search rules
 
-slice_aggregate_read_form_4 : tie.Need-slice-aggregate-read-form-4
+slice_aggregate_read_form_4 : tie.Need-slice_bounds-read_form-end-4
 slice_aggregate_read_form_4 c = search rules
 
-read_form_requires_2 : tie.Need-read-form-requires-2
+read_form_requires_2 : tie.Need-read_form-b-requires
 read_form_requires_2 c κs = search rules
 
 -- both were read
-module _ (c : tie.After-read-form2) where
-  abbrev earlier : tie.After-read-form
+module _ (c : tie.After-read_form-b) where
+  abbrev earlier : tie.After-read_form-a
   earlier = c.before.before.before.before.before
 
   abbrev start : tie.Start
@@ -66,37 +66,37 @@ module _ (c : tie.After-read-form2) where
   H = start.args.upper
 
   in_order_lem : L ≤ℤ H
-  in_order_lem = ordered L H start.ranges.lower.sfits start.ranges.upper.sfits (rw (low_same start, high_same start) at earlier.before.before.before.if1.left)
+  in_order_lem = ordered L H start.ranges.lower.sfits start.ranges.upper.sfits (rw (low_same start, high_same start) at earlier.before.before.before.if-upper-lower.false)
 
-fault_requires_2 : tie.Need-fault-requires-2
+fault_requires_2 : tie.Need-fault-requires-then-not-a-b
 fault_requires_2 c κs = search rules
 
-refused_requires_2 : tie.Need-refused-requires-2
+refused_requires_2 : tie.Need-refused-requires-then-not-a-b
 refused_requires_2 c κs = search rules
 
-returns_2 : tie.Need-returns-2
+returns_2 : tie.Need-returns-then-not-a-b
 returns_2 c =
     let t = c.before.before in
     let w = t.before.before.before.before.before in
     let s = start w in
-    let first_read = rw (low_same s, high_same s) at (earlier w).read-form.ensures in
-    let second_read = rw (low_same s, high_same s) at w.read-form2.ensures in
-    let number = rw (low_same s, high_same s) at c.before.fault2.ensures in
-    rw (c.refused2.ensures.0, c.refused2.ensures.1, number)
+    let first_read = rw (low_same s, high_same s) at (earlier w).read_form-a.ensures in
+    let second_read = rw (low_same s, high_same s) at w.read_form-b.ensures in
+    let number = rw (low_same s, high_same s) at c.fault-then-not-a-b.ensures in
+    rw (c.refused-then-not-a-b.ensures.0, c.refused-then-not-a-b.ensures.1, number)
     (fault_is (L w) (H w) s.ranges.lower.sfits s.ranges.upper.sfits s.args.first.now s.args.second.now s.args.room.now
-    (λ e. not_both_forms (L w) (H w) s.args.first.now s.args.second.now (earlier w).read-form.result.normal w.read-form2.result.normal
-    (read_none _ _ _ _ _ _ _ _ _ _ first_read) (read_none _ _ _ _ _ _ _ _ _ _ second_read) (not-true _ t.if2.true)))
+    (λ e. not_both_forms (L w) (H w) s.args.first.now s.args.second.now (earlier w).read_form-a.result.normal w.read_form-b.result.normal
+    (read_none _ _ _ _ _ _ _ _ _ _ first_read) (read_none _ _ _ _ _ _ _ _ _ _ second_read) (not-true _ t.if-not-a-b.true-raw)))
 
-slice_aggregate_meet : tie.Need-slice-aggregate-meet
+slice_aggregate_meet : tie.Need-slice_bounds-meet-end
 slice_aggregate_meet c = search rules
 
-slice_aggregate_meet_2 : tie.Need-slice-aggregate-meet-2
+slice_aggregate_meet_2 : tie.Need-slice_bounds-meet-end-2
 slice_aggregate_meet_2 c = search rules
 
-slice_aggregate_meet_3 : tie.Need-slice-aggregate-meet-3
+slice_aggregate_meet_3 : tie.Need-slice_bounds-meet-end-3
 slice_aggregate_meet_3 c = search rules
 
-slice_aggregate_meet_4 : tie.Need-slice-aggregate-meet-4
+slice_aggregate_meet_4 : tie.Need-slice_bounds-meet-end-4
 slice_aggregate_meet_4 c = search rules
 
 meet_requires : tie.Need-meet-requires
@@ -104,29 +104,29 @@ meet_requires c κs =
     let n = c.before.before.before.before.before in
     let w = n.before.before.before.before.before in
     let s = start w in
-    let first_read = rw (low_same s, high_same s) at (earlier w).read-form.ensures in
-    let second_read = rw (low_same s, high_same s) at w.read-form2.ensures in
-    let normal = not-false _ n.if2.false in (
-      read_held _ _ _ _ _ _ _ _ _ _ s.ranges.lower.sfits first_read (and_left (earlier w).read-form.result.normal w.read-form2.result.normal normal) refl refl,
-      read_held _ _ _ _ _ _ _ _ _ _ s.ranges.lower.sfits second_read (and_right (earlier w).read-form.result.normal w.read-form2.result.normal normal) refl refl,
+    let first_read = rw (low_same s, high_same s) at (earlier w).read_form-a.ensures in
+    let second_read = rw (low_same s, high_same s) at w.read_form-b.ensures in
+    let normal = not-false _ n.if-not-a-b.false-raw in (
+      read_held _ _ _ _ _ _ _ _ _ _ s.ranges.lower.sfits first_read (and_left (earlier w).read_form-a.result.normal w.read_form-b.result.normal normal) refl refl,
+      read_held _ _ _ _ _ _ _ _ _ _ s.ranges.lower.sfits second_read (and_right (earlier w).read_form-a.result.normal w.read_form-b.result.normal normal) refl refl,
     )
 
-same_length : tie.Need-same-length
+same_length : tie.Need-shape_of-room
 same_length c = search rules
 
-returns_3 : tie.Need-returns-3
+returns_3 : tie.Need-returns
 returns_3 c =
     let m = c.before.before.before.before.before.before in
     let n = m.before.before.before.before.before.before in
     let w = n.before.before.before.before.before in
     let s = start w in
-    let first_read = rw (low_same s, high_same s) at (earlier w).read-form.ensures in
-    let second_read = rw (low_same s, high_same s) at w.read-form2.ensures in
-    let normal = not-false _ n.if2.false in
+    let first_read = rw (low_same s, high_same s) at (earlier w).read_form-a.ensures in
+    let second_read = rw (low_same s, high_same s) at w.read_form-b.ensures in
+    let normal = not-false _ n.if-not-a-b.false-raw in
     rw (low_same s, high_same s) at m.meet.ensures
     ∙ meeting_is (L w) (H w) s.ranges.lower.sfits s.ranges.upper.sfits (in_order_lem w)
-    s.args.first.now (earlier w).read-form.result.outside _ (read_written _ _ _ _ _ _ _ _ _ _ first_read (and_left (earlier w).read-form.result.normal w.read-form2.result.normal normal))
-    s.args.second.now w.read-form2.result.outside _ (read_written _ _ _ _ _ _ _ _ _ _ second_read (and_right (earlier w).read-form.result.normal w.read-form2.result.normal normal))
+    s.args.first.now (earlier w).read_form-a.result.outside _ (read_written _ _ _ _ _ _ _ _ _ _ first_read (and_left (earlier w).read_form-a.result.normal w.read_form-b.result.normal normal))
+    s.args.second.now w.read_form-b.result.outside _ (read_written _ _ _ _ _ _ _ _ _ _ second_read (and_right (earlier w).read_form-a.result.normal w.read_form-b.result.normal normal))
     s.args.room.now
 
 pub meeting_spec : {M : Type 1} → statement M

@@ -73,7 +73,7 @@ mark_within_requires_2 : tie.Need-mark-within-requires-2
 mark_within_requires_2 c κs =
     let lines = c.before.before.before.before in
     let start = lines.before.before.before.before.before.before in
-    (start.requires.0, start.requires.1, omega (arith, lines.in_eights_lem.ensures, few start))
+    (start.requires.0, start.requires.1, omega (arith, lines.in_eights.ensures, few start))
 
 returns_2 : tie.Need-returns-2
 returns_2 c fam lent =
@@ -85,7 +85,7 @@ returns_2 c fam lent =
     let high : Word b.upper = search rules in
     let taken = at_Bounds.before.if1.true in
     leaf_marked _ _ _ _ _ _ _ _ _ _ _ _ _ _ (asks start).widened c.mark-within2.ensures taken (integer_there start taken) at_Bounds.bounds-at.ensures (again_same b.lower low) (again_same b.upper high) fam
-    (omega (arith, size_of start fam lent, at_lines.in_eights_lem.ensures))
+    (omega (arith, size_of start fam lent, at_lines.in_eights.ensures))
 
 in_eights_requires_2 : tie.Need-in-eights-requires-2
 in_eights_requires_2 c κs = few c.before.before.before.before.before.before

@@ -25,19 +25,19 @@ plain s = accepted_plain _ _ _ s.requires.0
 there : (s : tie.Start) → LeafHere s.args.template.now 0
 there s = leaf_there _ 0 8 (whole_here _ _ (plain s)) s.requires.1
 
-bounds_at_requires : tie.Need-bounds-at-requires
+bounds_at_requires : tie.Need-bounds_at-l-requires
 bounds_at_requires c κs = there c.before.before
 
 -- its range
-module _ (c : tie.After-bounds-at) where
+module _ (c : tie.After-bounds_at-l) where
   abbrev s : tie.Start
   s = c.before.before.before
 
   abbrev a : ℤ
-  a = c.bounds-at.result.lower
+  a = c.bounds_at-l.result.lower
 
   abbrev b : ℤ
-  b = c.bounds-at.result.upper
+  b = c.bounds_at-l.result.upper
 
   word_a : Word a
   word_a = search rules
@@ -46,19 +46,19 @@ module _ (c : tie.After-bounds-at) where
   word_b = search rules
 
   found : Ascending (span (again a) (again b) ∷ [])
-      × HereSet s.args.template.now 0 8 (holds (span (again a) (again b) ∷ [])) (weight (span (again a) (again b) ∷ [])) c.bounds-at.result.next
-  found = rw (again_same a word_a, again_same b word_b) (leaf_here_set _ 0 8 (span a b ∷ []) a b _ refl (there s) s.requires.1 c.bounds-at.ensures)
+      × HereSet s.args.template.now 0 8 (holds (span (again a) (again b) ∷ [])) (weight (span (again a) (again b) ∷ [])) c.bounds_at-l.result.next
+  found = rw (again_same a word_a, again_same b word_b) (leaf_here_set _ 0 8 (span a b ∷ []) a b _ refl (there s) s.requires.1 c.bounds_at-l.ensures)
 
-slice_aggregate_give_set : tie.Need-slice-aggregate-give-set
+slice_aggregate_give_set : tie.Need-slice_bounds-give_set-end
 slice_aggregate_give_set c = search rules
 
-slice_aggregate_give_set_2 : tie.Need-slice-aggregate-give-set-2
+slice_aggregate_give_set_2 : tie.Need-slice_bounds-give_set-end-2
 slice_aggregate_give_set_2 c = search rules
 
-give_set_requires : tie.Need-give-set-requires
+give_set_requires : tie.Need-give_set-requires
 give_set_requires c κs = (omega arith, omega arith, omega arith, (found c.before.before.before.before.before).0)
 
-same_length : tie.Need-same-length
+same_length : tie.Need-shape_of-room
 same_length c = search rules
 
 returns : tie.Need-returns
@@ -68,7 +68,7 @@ returns c =
     let f = found l in
     let lo = (s l).args.lower in
     let hi = (s l).args.upper in
-    rw (again_same lo (s l).ranges.lower.sfits, again_same hi (s l).ranges.upper.sfits) at g.give-set.ensures
+    rw (again_same lo (s l).ranges.lower.sfits, again_same hi (s l).ranges.upper.sfits) at g.give_set.ensures
     ∙ answer_form lo hi _ (s l).args.room.now (s l).requires.0 _ (whole_set _ _ (plain (s l)) _ _ _ f.0 f.1)
 
 pub of_leaf_spec : {M : Type 1} → statement M

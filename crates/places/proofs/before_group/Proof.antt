@@ -9,59 +9,59 @@ use borrow.Author.Rules.{rules}
 use Rattle.places.proofs.before_group.Statement.{statement}
 use Rattle.places.proofs.before_group.Tie as tie
 
-abbrev invariant_loop : tie.invariant-loop
+abbrev invariant_loop : tie.invariant-loop-todo
 invariant_loop rows b good todo₀ r₀ todo r = Sought (may rows) b good todo r
 
-abbrev decreases_loop : tie.decreases-loop
+abbrev decreases_loop : tie.decreases-loop-todo
 decreases_loop rows b good todo₀ r₀ todo r = count (bit todo) 64
 
-cast_before_spares : tie.Need-overflow-cast-before-spares invariant_loop decreases_loop
+cast_before_spares : tie.Need-overflow_cast-b invariant_loop decreases_loop
 cast_before_spares c = search rules
 
-cast_before_spares_2 : tie.Need-overflow-cast-before-spares-2 invariant_loop decreases_loop
+cast_before_spares_2 : tie.Need-overflow_cast-b-2 invariant_loop decreases_loop
 cast_before_spares_2 c = search rules
 
-add_before_spares : tie.Need-overflow-add-before-spares invariant_loop decreases_loop
+add_before_spares : tie.Need-overflow_add-b invariant_loop decreases_loop
 add_before_spares c = search rules
 
-cast_before_spares_3 : tie.Need-overflow-cast-before-spares-3 invariant_loop decreases_loop
+cast_before_spares_3 : tie.Need-overflow_cast-b-3 invariant_loop decreases_loop
 cast_before_spares_3 c = search rules
 
-cast_before_spares_4 : tie.Need-overflow-cast-before-spares-4 invariant_loop decreases_loop
+cast_before_spares_4 : tie.Need-overflow_cast-b-4 invariant_loop decreases_loop
 cast_before_spares_4 c = search rules
 
-add_before_spares_2 : tie.Need-overflow-add-before-spares-2 invariant_loop decreases_loop
+add_before_spares_2 : tie.Need-overflow_add-b-2 invariant_loop decreases_loop
 add_before_spares_2 c = search rules
 
-before_spares_requires : tie.Need-before-spares-requires invariant_loop decreases_loop
+before_spares_requires : tie.Need-before_spares-todo-requires invariant_loop decreases_loop
 before_spares_requires c κs = search rules
 
-loop_holds : tie.Need-loop-init invariant_loop decreases_loop
-loop_holds c = sought_start _ c.before_spares.ensures
+loop_holds : tie.Need-loop-todo-init invariant_loop decreases_loop
+loop_holds c = sought_start _ c.before_spares-todo.ensures
 
-highest_place_requires : tie.Need-highest-place-requires invariant_loop decreases_loop
+highest_place_requires : tie.Need-highest_place-p-requires invariant_loop decreases_loop
 highest_place_requires c κs = omega arith
 
-led_from_requires : tie.Need-led-from-requires invariant_loop decreases_loop
-led_from_requires c κs = let l = c.before.before in let s = l.before.before.before.before.before.before in (s.requires.0, s.requires.1, l.loop.invariant.near _ c.highest-place.ensures.inside)
+led_from_requires : tie.Need-led_from-led-requires invariant_loop decreases_loop
+led_from_requires c κs = let l = c.before.before in let s = l.before.before.before.before.before.before in (s.requires.0, s.requires.1, l.loop-todo.invariant.near _ c.highest_place-p.ensures.inside)
 
-in_either_requires : tie.Need-in-either-requires invariant_loop decreases_loop
+in_either_requires : tie.Need-in_either-r-requires invariant_loop decreases_loop
 in_either_requires c κs = search rules
 
-with_place_requires : tie.Need-with-place-requires invariant_loop decreases_loop
-with_place_requires c κs = c.before.before.highest-place.ensures.low
+with_place_requires : tie.Need-with_place-requires invariant_loop decreases_loop
+with_place_requires c κs = c.before.before.highest_place-p.ensures.low
 
-left_out_requires : tie.Need-left-out-requires invariant_loop decreases_loop
+left_out_requires : tie.Need-left_out-todo-requires invariant_loop decreases_loop
 left_out_requires c κs = search rules
 
-loop_less : tie.Need-loop-smaller invariant_loop decreases_loop
-loop_less c = let h = c.before.before.before.before in sought_less _ _ _ _ h.highest-place.ensures.inside h.highest-place.ensures.low c.before.with-place.ensures c.left_out.ensures
+loop_less : tie.Need-loop-todo-smaller invariant_loop decreases_loop
+loop_less c = let h = c.before.before.before.before in sought_less _ _ _ _ h.highest_place-p.ensures.inside h.highest_place-p.ensures.low c.before.with_place.ensures c.left_out-todo.ensures
 
-loop_again : tie.Need-loop-preserved invariant_loop decreases_loop
-loop_again c = let l = c.before.before.before.before.before.before in sought_step l.loop.invariant c.before.before.before.led-from.ensures _ c.before.before.in_either.ensures c.before.with-place.ensures c.left_out.ensures
+loop_again : tie.Need-loop-todo-preserved invariant_loop decreases_loop
+loop_again c = let l = c.before.before.before.before.before.before in sought_step l.loop-todo.invariant c.before.before.before.led_from-led.ensures _ c.before.before.in_either-r.ensures c.before.with_place.ensures c.left_out-todo.ensures
 
 returns : tie.Need-returns invariant_loop decreases_loop
-returns c = sought_end _ (omega arith) c.before.loop.invariant
+returns c = sought_end _ (omega arith) c.before.loop-todo.invariant
 
 pub before_group_spec : {M : Type 1} → statement M
 before_group_spec =

@@ -19,7 +19,7 @@ one_before x e = ⊎_elim
     (λ (l : 32 ≤ e). bit_past 32 (x / 2 ^ 1) e l ∙ sym (ap (λ t. t && bit x (e + 1)) (le-ltb e 32 l)))
     (below e 32)
 
-cast_result : tie.Need-overflow-cast-result
+cast_result : tie.Need-overflow_cast-result
 cast_result c = search rules
 
 returns : tie.Need-returns

@@ -15,87 +15,87 @@ use Rattle.places.proofs.led_from.Statement.{statement}
 use Rattle.places.proofs.led_from.Tie as tie
 
 -- the end that is ahead of p is among those that are looked at
-ahead : (c : tie.After-up-to) → bit c.up_to_lem.result c.before.before.before.before.before.requires.2.place ≡ true
+ahead : (c : tie.After-up_to) → bit c.up_to.result c.before.before.before.before.before.requires.2.place ≡ true
 ahead c =
     let s = c.before.before.before.before.before in
     let a = s.requires.2 in
     let f = a.far in
-    c.up_to_lem.ensures a.place ∙ both (leb a.place (s.args.p + (s.args.b.k + s.args.b.max))) (bit s.args.good a.place) (le-leb _ _ f) a.here
+    c.up_to.ensures a.place ∙ both (leb a.place (s.args.p + (s.args.b.k + s.args.b.max))) (bit s.args.good a.place) (le-leb _ _ f) a.here
 
-abbrev start : tie.After-highest-place → tie.Start
+abbrev start : tie.After-highest_place-q → tie.Start
 start c = c.before.before.before.before.before.before
 
-reached : (c : tie.After-highest-place) → Furthest (start c).args.good ((start c).args.p + ((start c).args.b.k + (start c).args.b.max)) c.highest-place.result
-reached c = furthest_is c.before.up_to_lem.result c.before.up_to_lem.ensures c.highest-place.ensures
+reached : (c : tie.After-highest_place-q) → Furthest (start c).args.good ((start c).args.p + ((start c).args.b.k + (start c).args.b.max)) c.highest_place-q.result
+reached c = furthest_is c.before.up_to.result c.before.up_to.ensures c.highest_place-q.ensures
 
-enough : (c : tie.After-highest-place) → (start c).args.p + ((start c).args.b.k + (start c).args.b.min) ≤ c.highest-place.result
+enough : (c : tie.After-highest_place-q) → (start c).args.p + ((start c).args.b.k + (start c).args.b.min) ≤ c.highest_place-q.result
 enough c =
     let a = (start c).requires.2 in
     let n = a.near in
-    let g = highest_last c.highest-place.ensures a.place (ahead c.before) in
+    let g = highest_last c.highest_place-q.ensures a.place (ahead c.before) in
     omega arith
 
-order : (c : tie.After-highest-place) → (start c).args.p ≤ c.highest-place.result
+order : (c : tie.After-highest_place-q) → (start c).args.p ≤ c.highest_place-q.result
 order c = omega (arith, enough c)
 
-cast_least : tie.Need-overflow-cast-least
+cast_least : tie.Need-overflow_cast-least
 cast_least c = search rules
 
-cast_least_2 : tie.Need-overflow-cast-least-2
+cast_least_2 : tie.Need-overflow_cast-least-2
 cast_least_2 c = search rules
 
-add_least : tie.Need-overflow-add-least
+add_least : tie.Need-overflow_add-least
 add_least c = search rules
 
-cast_most : tie.Need-overflow-cast-most
+cast_most : tie.Need-overflow_cast-most
 cast_most c = search rules
 
-cast_most_2 : tie.Need-overflow-cast-most-2
+cast_most_2 : tie.Need-overflow_cast-most-2
 cast_most_2 c = search rules
 
-add_most : tie.Need-overflow-add-most
+add_most : tie.Need-overflow_add-most
 add_most c = search rules
 
-add_up_to : tie.Need-overflow-add-up-to
+add_up_to : tie.Need-overflow_add-p
 add_up_to c = let a = c.before.before.before.before.requires.2 in let n = a.near in let l = c.before.before.before.before.requires.1 a.place a.here in omega arith
 
-up_to_requires : tie.Need-up-to-requires
+up_to_requires : tie.Need-up_to-requires
 up_to_requires c κs = search rules
 
-highest_place_requires : tie.Need-highest-place-requires
+highest_place_requires : tie.Need-highest_place-q-requires
 highest_place_requires c κs = bit_pos _ _ (ahead c)
 
-cast_first_assignment : tie.Need-overflow-cast-first-assignment
+cast_first_assignment : tie.Need-overflow_cast-p
 cast_first_assignment c = let s = start c in let a = s.requires.2 in let n = a.near in let l = s.requires.1 a.place a.here in omega arith
 
-cast_first_assignment_2 : tie.Need-overflow-cast-first-assignment-2
+cast_first_assignment_2 : tie.Need-overflow_cast-q
 cast_first_assignment_2 c = let s = start c in let l = s.requires.1 _ (reached c).here in omega arith
 
-first_assignment_requires : tie.Need-first-assignment-requires
+first_assignment_requires : tie.Need-first_assignment-f-requires
 first_assignment_requires c κs = let s = start c in (s.requires.0, order c, s.requires.1 _ (reached c).here)
 
-returns : tie.Need-returns
-returns c = let x = c.before.before.before in let s = start x in led_none s.requires.0 s.requires.1 (reached x) c.before.before.first-assignment.ensures (not-true _ c.if1.true)
+returns : tie.Need-returns-then-not-f
+returns c = let x = c.before.before.before in let s = start x in led_none s.requires.0 s.requires.1 (reached x) c.before.before.first_assignment-f.ensures (not-true _ c.if-not-f.true)
 
-after_last_requires : tie.Need-after-last-requires
+after_last_requires : tie.Need-after_last-next-requires
 after_last_requires c κs = let x = c.before.before.before.before.before in let s = start x in (order x, s.requires.1 _ (reached x).here)
 
-from_on_requires : tie.Need-from-on-requires
+from_on_requires : tie.Need-from_on-requires
 from_on_requires c κs = search rules
 
-before_spares_requires : tie.Need-before-spares-requires
+before_spares_requires : tie.Need-before_spares-requires
 before_spares_requires c κs = search rules
 
-up_to_requires_2 : tie.Need-up-to-requires-2
+up_to_requires_2 : tie.Need-up_to-requires-2
 up_to_requires_2 c κs = search rules
 
-returns_2 : tie.Need-returns-2
+returns_2 : tie.Need-returns
 returns_2 c =
     let found = c.before.before.before.before.before.before in
     let x = found.before.before.before in
     let s = start x in
-    led_found s.requires.0 s.requires.1 (reached x) c.before.before.from_on.result c.before.before_spares.result found.before.before.first-assignment.ensures (not-false _ found.if1.false) (enough x)
-    c.before.before.before.after_last.ensures c.before.before.from_on.ensures c.before.before_spares.ensures c.up-to2.ensures
+    led_found s.requires.0 s.requires.1 (reached x) c.before.before.from_on.result c.before.before_spares.result found.before.before.first_assignment-f.ensures (not-false _ found.if-not-f.false) (enough x)
+    c.before.before.before.after_last-next.ensures c.before.before.from_on.ensures c.before.before_spares.ensures c.up_to-2.ensures
 
 pub led_from_spec : {M : Type 1} → statement M
 led_from_spec =

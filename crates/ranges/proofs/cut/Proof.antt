@@ -14,7 +14,7 @@ use lib.ListN.{length, get_or, length-set}
 use mir.Syntax.{w32}
 use mir.Val.{of_z}
 use borrow.Author.Rules.{rules}
-use borrow.Author.Tests.{not-true, not-false, eqb-true}
+use borrow.Author.Tests.{eqb-true}
 use Rattle.facts.proofs.Cases.{and_left, and_right}
 use Rattle.integers.specs.Integer.{Word, least, greatest}
 use Rattle.integers.proofs.SignedLocals.{num, again, again_same, least_yes, most_yes}
@@ -118,20 +118,20 @@ loop_again c =
     let wb : Word (B i) = c.before.b-1.given in
     ⊎_elim
     (λ w.
-    let test : (lt_z (B i) (L i) || lt_z (H i) (A i)) ≡ false = rw (again_same (A i) wa, again_same (B i) wb) at (not-true (lt_z (again (B i)) (L i) || lt_z (H i) (again (A i))) w.0.taken) in
-    let low_end : again w.1.result ≡ larger (A i) (L i) = again_same w.1.result w.1.ok ∙ w.1.ensures ∙ ap (λ (z : ℤ). larger z (L i)) (again_same (A i) wa) in
-    let high_end : again w.2.result ≡ lesser (B i) (H i) = again_same w.2.result w.2.ok ∙ w.2.ensures ∙ ap (λ (z : ℤ). lesser z (H i)) (again_same (B i) wb) in (
-      ap length w.3 ∙ length-set l.lo l.w (again w.1.result) ∙ l.invariant.0,
-      ap length w.4 ∙ length-set l.hi l.w (again w.2.result) ∙ l.invariant.1,
-      rw (w.3, w.4, w.5, add-one l.w, add-one l.k, low_end, high_end) (step_cut _ _ _ _ _ _ _ _ (going i) i.loop-k-test.true test),
+    let test : (lt_z (B i) (L i) || lt_z (H i) (A i)) ≡ false = rw (again_same (A i) wa, again_same (B i) wb) at w.if-not-b-lower.true in
+    let low_end : again w.larger-l.result ≡ larger (A i) (L i) = again_same w.larger-l.result w.larger-l.type_inv ∙ w.larger-l.ensures ∙ ap (λ (z : ℤ). larger z (L i)) (again_same (A i) wa) in
+    let high_end : again w.lesser-u.result ≡ lesser (B i) (H i) = again_same w.lesser-u.result w.lesser-u.type_inv ∙ w.lesser-u.ensures ∙ ap (λ (z : ℤ). lesser z (H i)) (again_same (B i) wb) in (
+      ap length w.lo-is ∙ length-set l.lo l.w (again w.larger-l.result) ∙ l.invariant.0,
+      ap length w.hi-is ∙ length-set l.hi l.w (again w.lesser-u.result) ∙ l.invariant.1,
+      rw (w.lo-is, w.hi-is, w.w-is, add-one l.w, add-one l.k, low_end, high_end) (step_cut _ _ _ _ _ _ _ _ (going i) i.loop-k-test.true test),
     ))
     (λ w.
-    let test : (lt_z (B i) (L i) || lt_z (H i) (A i)) ≡ true = rw (again_same (A i) wa, again_same (B i) wb) at (not-false (lt_z (again (B i)) (L i) || lt_z (H i) (again (A i))) w.0.left) in (
-      ap length w.1 ∙ l.invariant.0,
-      ap length w.2 ∙ l.invariant.1,
-      rw (w.1, w.2, w.3, add-one l.k) (step_out _ _ _ _ _ _ _ _ (going i) i.loop-k-test.true test),
+    let test : (lt_z (B i) (L i) || lt_z (H i) (A i)) ≡ true = rw (again_same (A i) wa, again_same (B i) wb) at w.if-not-b-lower.false in (
+      ap length w.lo-is ∙ l.invariant.0,
+      ap length w.hi-is ∙ l.invariant.1,
+      rw (w.lo-is, w.hi-is, w.w-is, add-one l.k) (step_out _ _ _ _ _ _ _ _ (going i) i.loop-k-test.true test),
     ))
-    c.if-not-b-lower.branch
+    c.if-not-b-lower.branch-raw
 
 same_length : tie.Need-shape_of-lo invariant_loop decreases_loop
 same_length c = c.before.loop-k.invariant.0

@@ -12,13 +12,13 @@ same s = rw (again_same s.args.a s.ranges.a.sfits, again_same s.args.b s.ranges.
 returns : tie.Need-returns-then-a-b
 returns c =
     let s = c.before in
-    let e : lt_z s.args.a s.args.b ≡ true = sym (same s) ∙ c.if-a-b.taken in
+    let e : lt_z s.args.a s.args.b ≡ true = sym (same s) ∙ c.if-a-b.true in
     rw (again_same s.args.a s.ranges.a.sfits, e)
 
 returns_2 : tie.Need-returns-else-a-b
 returns_2 c =
     let s = c.before in
-    let e : lt_z s.args.a s.args.b ≡ false = sym (same s) ∙ c.if-a-b.left in
+    let e : lt_z s.args.a s.args.b ≡ false = sym (same s) ∙ c.if-a-b.false in
     rw (again_same s.args.b s.ranges.b.sfits, e)
 
 pub lesser_spec : {M : Type 1} → statement M

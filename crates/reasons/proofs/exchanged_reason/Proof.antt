@@ -8,7 +8,7 @@ use Rattle.reasons.proofs.Groups.{given_agree}
 use Rattle.reasons.proofs.exchanged_reason.Statement.{statement}
 use Rattle.reasons.proofs.exchanged_reason.Tie as tie
 
-turned_requires : tie.Need-turned-requires
+turned_requires : tie.Need-turned-columns-requires
 turned_requires c κs = search rules
 
 reason_requires : tie.Need-reason-requires
@@ -17,8 +17,8 @@ reason_requires c κs = search rules
 returns : tie.Need-returns
 returns c =
     let turning = c.before.before in
-    let cols = turning.turned.result in
-    given_agree (λ e m l h. sym (row_may cols e m) ∙ row_picks cols m e ∙ turned_says turning.turned.ensures m e (between_in 0 _ m (omega arith) (omega arith)) (between_in 0 _ e (omega arith) (omega arith))) c.reason.ensures
+    let cols = turning.turned-columns.result in
+    given_agree (λ e m l h. sym (row_may cols e m) ∙ row_picks cols m e ∙ turned_says turning.turned-columns.ensures m e (between_in 0 _ m (omega arith) (omega arith)) (between_in 0 _ e (omega arith) (omega arith))) c.reason.ensures
 
 pub exchanged_reason_spec : {M : Type 1} → statement M
 exchanged_reason_spec = tie.close (tie.spec turned_requires reason_requires returns)

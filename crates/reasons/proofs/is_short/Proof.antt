@@ -11,14 +11,14 @@ use Rattle.reasons.proofs.is_short.Statement.{statement}
 use Rattle.reasons.proofs.is_short.Tie as tie
 
 -- src/lib.rt:74:9
-joined_requires : tie.Need-joined-requires
+joined_requires : tie.Need-joined-elements-requires
 joined_requires c κs = search rules
 
 -- src/lib.rt:70:1
 returns : tie.Need-returns
 returns c =
     ap₂ ltb
-    (ones_count 32 c.joined.result c.joined.type-inv ∙ count_same (bit c.joined.result) (met (may c.before.args.rows.now) c.before.args.n (bit c.before.args.group)) c.joined.ensures 32)
+    (ones_count 32 c.joined-elements.result c.joined-elements.type_inv ∙ count_same (bit c.joined-elements.result) (met (may c.before.args.rows.now) c.before.args.n (bit c.before.args.group)) c.joined-elements.ensures 32)
     (ones_count 32 c.before.args.group c.before.ranges.group.fits)
 
 pub is_short_spec : {M : Type 1} → statement M

@@ -11,32 +11,32 @@ use Rattle.reasons.proofs.Groups.{reason_short}
 use Rattle.reasons.proofs.reason.Statement.{statement}
 use Rattle.reasons.proofs.reason.Tie as tie
 
-widest_assignment_requires : tie.Need-widest-assignment-requires
+widest_assignment_requires : tie.Need-widest_assignment-s-requires
 widest_assignment_requires c κs = search rules
 
-grown_requires : tie.Need-grown-requires
+grown_requires : tie.Need-grown-group-requires
 grown_requires c κs = search rules
 
-is_short_requires : tie.Need-is-short-requires
+is_short_requires : tie.Need-is_short-requires
 is_short_requires c κs = search rules
 
 -- what is grown is the reason
-grown_is : (c : tie.After-is-short) → let a = c.before.before.before.before.args in Reason (may a.rows.now) a.k a.n (bit c.before.grown.result)
+grown_is : (c : tie.After-is_short) → let a = c.before.before.before.before.args in Reason (may a.rows.now) a.k a.n (bit c.before.grown-group.result)
 grown_is c =
     let p = c.before.before.before.before.requires in
-    grown_reason p.0 p.1 c.before.before.before.widest-assignment.ensures c.before.grown.ensures
+    grown_reason p.0 p.1 c.before.before.before.widest_assignment-s.ensures c.before.grown-group.ensures
 
-returns : tie.Need-returns
+returns : tie.Need-returns-then-is_short
 returns c =
     let r = grown_is c.before in
-    a_reason r (record { inside = r.most.inside; few = ltb-true _ _ (sym c.before.is-short.ensures ∙ c.if1.true) })
+    a_reason r (record { inside = r.most.inside; few = ltb-true _ _ (sym c.before.is_short.ensures ∙ c.if-is_short.true) })
 
-returns_2 : tie.Need-returns-2
+returns_2 : tie.Need-returns
 returns_2 c =
     let r = grown_is c.before in
     let a = c.before.before.before.before.before.args in
-    let G = bit c.before.before.grown.result in
-    let enough = ltb-false (matched (may a.rows.now) a.n G) (size_of G) (sym c.before.is-short.ensures ∙ c.if1.false) in
+    let G = bit c.before.before.grown-group.result in
+    let enough = ltb-false (matched (may a.rows.now) a.n G) (size_of G) (sym c.before.is_short.ensures ∙ c.if-is_short.false) in
     no_reason refl (λ G s. let f = (reason_short r s).few in omega arith)
 
 pub reason_spec : {M : Type 1} → statement M

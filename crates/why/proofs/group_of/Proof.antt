@@ -79,7 +79,7 @@ returns_5 c fam plan lent =
     let explained = marked.before.before.before in
     let met = explained.before.before in
     let zero = met.before.before in
-    group_superset fam _ _ _ _ (size_of fam _ _ lent) zero.before.before.before.if1.false plan (passed zero fam plan lent) _ met.before.length-met.ensures (not-false _ met.if3.false) _ (marked.rows_of_lem.ensures fam lent) _ arm.if5.true c.reason.ensures
+    group_superset fam _ _ _ _ (size_of fam _ _ lent) zero.before.before.before.if1.false plan (passed zero fam plan lent) _ met.before.length-met.ensures (not-false _ met.if3.false) _ (marked.rows_of.ensures fam lent) _ arm.if5.true c.reason.ensures
 
 exchanged_reason_requires : tie.Need-exchanged-reason-requires
 exchanged_reason_requires c κs = let r = ready c.before.before.before.before.before.before.before.before.before in (r.planned.few_members, r.short)
@@ -92,7 +92,7 @@ returns_6 c fam plan lent =
     let met = explained.before.before in
     let zero = met.before.before in
     let kind = the_other _ (sym explained.before.is-explained.ensures ∙ not-false _ explained.if4.false) arm.if5.false in
-    group_subset fam _ _ _ _ (size_of fam _ _ lent) zero.before.before.before.if1.false plan (passed zero fam plan lent) _ met.before.length-met.ensures (not-false _ met.if3.false) _ (marked.rows_of_lem.ensures fam lent) _ kind c.exchanged-reason.ensures
+    group_subset fam _ _ _ _ (size_of fam _ _ lent) zero.before.before.before.if1.false plan (passed zero fam plan lent) _ met.before.length-met.ensures (not-false _ met.if3.false) _ (marked.rows_of.ensures fam lent) _ kind c.exchanged-reason.ensures
 
 pub group_of_spec : {M : Type 1} → statement M
 group_of_spec =

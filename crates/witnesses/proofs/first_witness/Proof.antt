@@ -46,7 +46,7 @@ first_filling_requires c κs = let s = c.before.before.before.before.before.befo
 returns_2 : tie.Need-returns-2
 returns_2 c fam lent es s =
     let rows = c.before.before.before in
-    first_subset _ _ _ _ _ c.before.before.if2.true (filling_pairs fam es _ _ _ (lent_size fam _ _ lent) (rows.rows_of_lem.ensures fam lent es s) _ c.first-filling.ensures)
+    first_subset _ _ _ _ _ c.before.before.if2.true (filling_pairs fam es _ _ _ (lent_size fam _ _ lent) (rows.rows_of.ensures fam lent es s) _ c.first-filling.ensures)
 
 cast_first_containment : tie.Need-overflow-cast-first-containment
 cast_first_containment c = omega (arith, c.before.before.before.before.before.before.before.requires.0.placed.few)
@@ -57,7 +57,7 @@ first_containment_requires c κs = let s = c.before.before.before.before.before.
 returns_3 : tie.Need-returns-3
 returns_3 c fam lent es s =
     let rows = c.before.before.before.before in
-    first_plain _ _ _ _ _ c.before.before.if3.true (containing_pairs fam es _ _ _ (lent_size fam _ _ lent) (rows.rows_of_lem.ensures fam lent es s) _ c.first-containment.ensures)
+    first_plain _ _ _ _ _ c.before.before.if3.true (containing_pairs fam es _ _ _ (lent_size fam _ _ lent) (rows.rows_of.ensures fam lent es s) _ c.first-containment.ensures)
 
 block_at_requires : tie.Need-block-at-requires
 block_at_requires c κs = search rules
@@ -81,7 +81,7 @@ returns_4 c fam lent es s =
     (subst
     (λ (bs : List Block). Cutting (pair_of fam es (list_of fam a.integers.now a.floats.now)) bs (length a.integers.now + length a.floats.now) c.first-of-block.result.found c.first-of-block.result.w)
     (sym alone)
-    (cutting_pairs fam es (list_of fam a.integers.now a.floats.now) _ _ (lent_size fam _ _ lent) (other.before.rows_of_lem.ensures fam lent es s) _ c.first-of-block.ensures))
+    (cutting_pairs fam es (list_of fam a.integers.now a.floats.now) _ _ (lent_size fam _ _ lent) (other.before.rows_of.ensures fam lent es s) _ c.first-of-block.ensures))
 
 pub first_witness_spec : {M : Type 1} → statement M
 first_witness_spec =

@@ -15,84 +15,84 @@ use Rattle.assign.proofs.LeastFree.{GreedyTo, greedy_start, greedy_none, greedy_
 use Rattle.assign.proofs.quick.quick.Statement.{statement}
 use Rattle.assign.proofs.quick.quick.Tie as tie
 
-abbrev invariant_loop : tie.invariant-loop
+abbrev invariant_loop : tie.invariant-loop-e
 invariant_loop rows first k from to w₀ left₀ e₀ w left e = (from ≤ e) × (e ≤ to) × GreedyTo (may rows) first k from to w (bit left) e
 
-abbrev decreases_loop : tie.decreases-loop
+abbrev decreases_loop : tie.decreases-loop-e
 decreases_loop rows first k from to w₀ left₀ e₀ w left e = to - e
 
-add_span : tie.Need-overflow-add-span invariant_loop decreases_loop
+add_span : tie.Need-overflow_add-first invariant_loop decreases_loop
 add_span c = omega arith
 
-span_requires : tie.Need-span-requires invariant_loop decreases_loop
+span_requires : tie.Need-span-left-requires invariant_loop decreases_loop
 span_requires c κs = (omega arith, omega arith)
 
-loop_holds : tie.Need-loop-init invariant_loop decreases_loop
-loop_holds c = let p = c.before.requires in (omega arith, omega arith, greedy_start p.0 p.1 p.2 c.span.ensures)
+loop_holds : tie.Need-loop-e-init invariant_loop decreases_loop
+loop_holds c = let p = c.before.requires in (omega arith, omega arith, greedy_start p.0 p.1 p.2 c.span-left.ensures)
 
 -- nobody is left
-returns : tie.Need-returns invariant_loop decreases_loop
+returns : tie.Need-returns-then-left-eq0 invariant_loop decreases_loop
 returns c =
     let l = c.before.before in
     let p = l.before.before.requires in
-    let i = l.loop.invariant in
-    greedy_rest p.0 i.0 i.1 p.2 c.if1.true i.2
+    let i = l.loop-e.invariant in
+    greedy_rest p.0 i.0 i.1 p.2 c.if-left-eq0.true i.2
 
-cast_free : tie.Need-overflow-cast-free invariant_loop decreases_loop
+cast_free : tie.Need-overflow_cast-free invariant_loop decreases_loop
 cast_free c = omega arith
 
-mul_free : tie.Need-overflow-mul-free invariant_loop decreases_loop
+mul_free : tie.Need-offset_bounds-rows-e invariant_loop decreases_loop
 mul_free c = omega arith
 
-element_copy_out_free : tie.Need-element-copy-out-free invariant_loop decreases_loop
+element_copy_out_free : tie.Need-bounds-rows-e invariant_loop decreases_loop
 element_copy_out_free c = omega arith
 
-lowest_requires : tie.Need-lowest-requires invariant_loop decreases_loop
-lowest_requires c κs = let n = c.if2.true in omega arith
+lowest_requires : tie.Need-lowest-m-requires invariant_loop decreases_loop
+lowest_requires c κs = let n = c.if-free-ne0.true in omega arith
 
-cast_w : tie.Need-overflow-cast-w invariant_loop decreases_loop
+cast_w : tie.Need-overflow_cast-w invariant_loop decreases_loop
 cast_w c = omega arith
 
-array_write_w : tie.Need-array-write-w invariant_loop decreases_loop
+array_write_w : tie.Need-bounds-w-e invariant_loop decreases_loop
 array_write_w c = omega arith
 
-flip_requires : tie.Need-flip-requires invariant_loop decreases_loop
-flip_requires c κs = c.lowest.ensures.low
+flip_requires : tie.Need-flip-left-requires invariant_loop decreases_loop
+flip_requires c κs = c.lowest-m.ensures.low
 
-add_e : tie.Need-overflow-add-e invariant_loop decreases_loop
+add_e : tie.Need-overflow_add-e invariant_loop decreases_loop
 add_e c = omega arith
 
-loop_less : tie.Need-loop-smaller invariant_loop decreases_loop
+loop_less : tie.Need-loop-e-smaller invariant_loop decreases_loop
 loop_less c = omega arith
 
-loop_again : tie.Need-loop-preserved invariant_loop decreases_loop
+loop_again : tie.Need-loop-e-preserved invariant_loop decreases_loop
 loop_again c =
     let l = c.before.before.before.before in
     let a = l.before.before.args in
     let p = l.before.before.requires in
-    let i = l.loop.invariant in
-    let e = l.loop.e in
+    let i = l.loop-e.invariant in
+    let e = l.loop-e.e in
     let rows = a.rows.now in
     let row = get_or rows e 0 in
-    let left = l.loop.left in
+    let left = l.loop-e.left in
     let again : List ℕ → ℕ → Type 0 = λ w left. GreedyTo (may rows) a.first a.k a.from a.to w (bit left) (e + 1) in (
       omega arith,
       omega arith,
       ⊎_elim
           (λ w.
-          let low = w.1.ensures in
-          let bits = and_bits row left w.1.result low.inside in
-          subst₂ again (sym w.3) (sym w.4) (greedy_some i.2 p.0 i.0 (omega arith) p.2 bits.1 (sym (row_may rows w.1.result e) ∙ bits.0)
-          (λ j z f o. clash (bit_and_lem row left j ∙ both (bit row j) (bit left j) (row_may rows j e ∙ o) f) (low.least j z)) w.2.ensures))
-          (λ w. subst₂ again (sym w.1) (sym w.2) (greedy_none i.2 p.0 i.0 (omega arith) p.2
-          (λ m f o. and_none row left m w.0.left (row_may rows m e ∙ o) f)))
-          c.if2.branch,
+          let low = w.lowest-m.ensures in
+          let bits = and_bits row left w.lowest-m.result low.inside in
+          subst₂ again (sym w.w-is) (sym w.left-is) (greedy_some i.2 p.0 i.0 (omega arith) p.2 bits.1 (sym (row_may rows w.lowest-m.result e) ∙ bits.0)
+          (λ j z f o. clash (bit_and_lem row left j ∙ both (bit row j) (bit left j) (row_may rows j e ∙ o) f) (low.least j z)) w.flip-left.ensures))
+          (λ w. subst₂ again (sym w.w-is) (sym w.left-is) (greedy_none i.2 p.0 i.0 (omega arith) p.2
+          (λ m f o. and_none row left m w.if-free-ne0.false (row_may rows m e ∙ o) f)))
+          c.if-free-ne0.branch-raw,
     )
 
-returns_2 : tie.Need-returns-2 invariant_loop decreases_loop
+returns_2 : tie.Need-returns invariant_loop decreases_loop
 returns_2 c =
-    let g = c.before.loop.invariant.2.greedy in
-    let done : c.before.loop.e ≡ c.before.before.before.args.to = omega arith in
+    let g = c.before.loop-e.invariant.2.greedy in
+    let done : c.before.loop-e.e ≡ c.before.before.before.args.to = omega arith in
     rw done at g
 
 pub quick_spec : {M : Type 1} → statement M

@@ -8,42 +8,42 @@ use native.Mathlib.Omega.{arith}
 use Rattle.fronts.proofs.pick.first_member.Statement.{statement}
 use Rattle.fronts.proofs.pick.first_member.Tie as tie
 
-abbrev invariant_loop : tie.invariant-loop
+abbrev invariant_loop : tie.invariant-loop-p
 invariant_loop w from to p₀ p = (from ≤ p) × (p ≤ to) × ((i : ℕ) → from ≤ i → i < p → get_or w i 0 ≡ 255)
 
-abbrev decreases_loop : tie.decreases-loop
+abbrev decreases_loop : tie.decreases-loop-p
 decreases_loop w from to p₀ p = to - p
 
-loop_holds : tie.Need-loop-init invariant_loop decreases_loop
+loop_holds : tie.Need-loop-p-init invariant_loop decreases_loop
 loop_holds c = (omega arith, omega arith, λ i l k. absurd (omega arith))
 
-element_copy_out_x : tie.Need-element-copy-out-x invariant_loop decreases_loop
+element_copy_out_x : tie.Need-bounds-w-p invariant_loop decreases_loop
 element_copy_out_x c = omega arith
 
-returns : tie.Need-returns invariant_loop decreases_loop
-returns c = let i = c.before.before.before.loop.invariant in record { low = i.0; high = i.1; blank = i.2; first = λ l q. c.if1.true q }
+returns : tie.Need-returns-then-x invariant_loop decreases_loop
+returns c = let i = c.before.before.before.loop-p.invariant in record { low = i.0; high = i.1; blank = i.2; first = λ l q. c.if-x.true q }
 
-add_p : tie.Need-overflow-add-p invariant_loop decreases_loop
+add_p : tie.Need-overflow_add-p invariant_loop decreases_loop
 add_p c = omega arith
 
-loop_less : tie.Need-loop-smaller invariant_loop decreases_loop
+loop_less : tie.Need-loop-p-smaller invariant_loop decreases_loop
 loop_less c = omega arith
 
-loop_again : tie.Need-loop-preserved invariant_loop decreases_loop
+loop_again : tie.Need-loop-p-preserved invariant_loop decreases_loop
 loop_again c =
-    let i = c.before.before.before.loop.invariant in
-    let p = c.before.before.before.loop.p in
+    let i = c.before.before.before.loop-p.invariant in
+    let p = c.before.before.before.loop-p.p in
     let w = c.before.before.before.before.args.w.now in (
       omega arith,
       omega arith,
       λ j l k. ⊎_elim
-          (λ (q : j ≡ p). subst (λ (z : ℕ). get_or w z 0 ≡ 255) (sym q) c.if1.false)
+          (λ (q : j ≡ p). subst (λ (z : ℕ). get_or w z 0 ≡ 255) (sym q) c.if-x.false)
           (λ (q : j ≡ p → ⊥). i.2 j l (omega arith))
           (same? j p),
     )
 
-returns_2 : tie.Need-returns-2 invariant_loop decreases_loop
-returns_2 c = let i = c.before.loop.invariant in record { low = i.0; high = i.1; blank = i.2; first = λ l q. absurd (omega arith) }
+returns_2 : tie.Need-returns invariant_loop decreases_loop
+returns_2 c = let i = c.before.loop-p.invariant in record { low = i.0; high = i.1; blank = i.2; first = λ l q. absurd (omega arith) }
 
 pub first_member_spec : {M : Type 1} → statement M
 first_member_spec =

@@ -16,99 +16,99 @@ use Rattle.fronts.proofs.pick.next.Statement.{statement}
 use Rattle.fronts.proofs.pick.next.Tie as tie
 
 -- ---- what is known after the search for the end
-abbrev begun : tie.After-highest-place → tie.Start
+abbrev begun : tie.After-highest_place-t → tie.Start
 begun c = c.before.before.before.before.before.before
 
-lead : (c : tie.After-highest-place) → Leads (may (begun c).args.rows.now) (begun c).args.b (begun c).args.ends c.before.before.before.before.before.lowest-place.result
-lead c = (begun c).requires.3.each _ ((begun c).requires.5.inside _ c.before.before.before.before.before.lowest-place.ensures.inside)
+lead : (c : tie.After-highest_place-t) → Leads (may (begun c).args.rows.now) (begun c).args.b (begun c).args.ends c.before.before.before.before.before.lowest_place-p.result
+lead c = (begun c).requires.3.each _ ((begun c).requires.5.inside _ c.before.before.before.before.before.lowest_place-p.ensures.inside)
 
-far : (c : tie.After-highest-place) → Furthest (begun c).args.ends (c.before.before.before.before.before.lowest-place.result + ((begun c).args.b.k + (begun c).args.b.max)) c.highest-place.result
-far c = furthest_is c.before.up_to_lem.result c.before.up_to_lem.ensures c.highest-place.ensures
+far : (c : tie.After-highest_place-t) → Furthest (begun c).args.ends (c.before.before.before.before.before.lowest_place-p.result + ((begun c).args.b.k + (begun c).args.b.max)) c.highest_place-t.result
+far c = furthest_is c.before.up_to.result c.before.up_to.ensures c.highest_place-t.ensures
 
-order : (c : tie.After-highest-place) → c.before.before.before.before.before.lowest-place.result ≤ c.highest-place.result
+order : (c : tie.After-highest_place-t) → c.before.before.before.before.before.lowest_place-p.result ≤ c.highest_place-t.result
 order c = omega (arith, lead_order (lead c) (far c))
 
-high : (c : tie.After-highest-place) → c.highest-place.result ≤ 32
+high : (c : tie.After-highest_place-t) → c.highest_place-t.result ≤ 32
 high c = (begun c).requires.2 _ (far c).here
 
 -- the places that are left come after this one
-after : (c : tie.After-highest-place) (e : ℕ) → bit c.before.before.before.before.from_on.result e ≡ true → (c.before.before.before.before.before.lowest-place.result < e) × (bit (begun c).args.s.rest e ≡ true)
+after : (c : tie.After-highest_place-t) (e : ℕ) → bit c.before.before.before.before.from_on-rest.result e ≡ true → (c.before.before.before.before.before.lowest_place-p.result < e) × (bit (begun c).args.s.rest e ≡ true)
 after c e h =
-    let p = c.before.before.before.before.before.lowest-place.result in
+    let p = c.before.before.before.before.before.lowest_place-p.result in
     let rest = (begun c).args.s.rest in
-    let x = sym (c.before.before.before.before.from_on.ensures e) ∙ h in
+    let x = sym (c.before.before.before.before.from_on-rest.ensures e) ∙ h in
     let l = leb-true (p + 1) e (and_left (leb (p + 1) e) (bit rest e) x) in
     (omega arith, and_right (leb (p + 1) e) (bit rest e) x)
 
-lowest_place_requires : tie.Need-lowest-place-requires
+lowest_place_requires : tie.Need-lowest_place-p-requires
 lowest_place_requires c κs = search rules
 
-add_from_on : tie.Need-overflow-add-from-on
+add_from_on : tie.Need-overflow_add-p
 add_from_on c = search rules
 
-from_on_requires : tie.Need-from-on-requires
+from_on_requires : tie.Need-from_on-rest-requires
 from_on_requires c κs = search rules
 
-cast_most : tie.Need-overflow-cast-most
+cast_most : tie.Need-overflow_cast-most
 cast_most c = search rules
 
-cast_most_2 : tie.Need-overflow-cast-most-2
+cast_most_2 : tie.Need-overflow_cast-most-2
 cast_most_2 c = search rules
 
-add_most : tie.Need-overflow-add-most
+add_most : tie.Need-overflow_add-most
 add_most c = search rules
 
-add_up_to : tie.Need-overflow-add-up-to
+add_up_to : tie.Need-overflow_add-p-2
 add_up_to c = search rules
 
-up_to_requires : tie.Need-up-to-requires
+up_to_requires : tie.Need-up_to-requires
 up_to_requires c κs = search rules
 
-highest_place_requires : tie.Need-highest-place-requires
-highest_place_requires c κs = lead_cut c.up_to_lem.result (c.before.before.before.before.before.requires.3.each _ (c.before.before.before.before.before.requires.5.inside _ c.before.before.before.before.lowest-place.ensures.inside)) c.up_to_lem.ensures
+highest_place_requires : tie.Need-highest_place-t-requires
+highest_place_requires c κs = lead_cut c.up_to.result (c.before.before.before.before.before.requires.3.each _ (c.before.before.before.before.before.requires.5.inside _ c.before.before.before.before.lowest_place-p.ensures.inside)) c.up_to.ensures
 
-returns : tie.Need-returns
+returns : tie.Need-returns-then-t-s
 returns c =
     let x = c.before.before in
     let s = begun x in
-    (pick_skip s.requires.5 x.before.before.before.before.before.lowest-place.ensures (far x) (omega arith) x.before.before.before.before.from_on.ensures, rest_fewer _ x.before.before.before.before.before.lowest-place.ensures (after x))
+    (pick_skip s.requires.5 x.before.before.before.before.before.lowest_place-p.ensures (far x) (omega arith) x.before.before.before.before.from_on-rest.ensures, rest_fewer _ x.before.before.before.before.before.lowest_place-p.ensures (after x))
 
-cast_first_assignment : tie.Need-overflow-cast-first-assignment
+cast_first_assignment : tie.Need-overflow_cast-p
 cast_first_assignment c = search rules
 
-cast_first_assignment_2 : tie.Need-overflow-cast-first-assignment-2
+cast_first_assignment_2 : tie.Need-overflow_cast-t
 cast_first_assignment_2 c = search rules
 
-first_assignment_requires : tie.Need-first-assignment-requires
+first_assignment_requires : tie.Need-first_assignment-f-requires
 first_assignment_requires c κs = let x = c.before.before in ((begun x).requires.0, order x, high x)
 
-comes_before_requires : tie.Need-comes-before-requires
+comes_before_requires : tie.Need-comes_before-requires
 comes_before_requires c κs = search rules
 
-returns_2 : tie.Need-returns-2
+returns_2 : tie.Need-returns-then-not-comes_before
 returns_2 c =
     let x = c.before.before.before.before.before.before.before.before in
     let s = begun x in (
-      pick_keep s.requires.5 x.before.before.before.before.before.lowest-place.ensures (far x) s.requires.0 s.requires.1 s.requires.2 (lead x) c.before.before.before.before.before.first-assignment.ensures (omega arith) (sym c.before.comes-before.ensures ∙ not-true _ c.if2.true)
-          x.before.before.before.before.from_on.ensures,
-      rest_fewer _ x.before.before.before.before.before.lowest-place.ensures (after x),
+      pick_keep s.requires.5 x.before.before.before.before.before.lowest_place-p.ensures (far x) s.requires.0 s.requires.1 s.requires.2 (lead x) c.before.before.before.before.before.first_assignment-f.ensures (omega arith) (sym c.before.comes_before.ensures ∙ not-true _ c.if-not-comes_before.true-raw)
+          x.before.before.before.before.from_on-rest.ensures,
+      rest_fewer _ x.before.before.before.before.before.lowest_place-p.ensures (after x),
     )
 
-first_member_requires : tie.Need-first-member-requires
+first_member_requires : tie.Need-first_member-head-requires
 first_member_requires c κs = let x = c.before.before.before.before.before.before.before.before.before in (order x, high x)
 
-up_to_requires_2 : tie.Need-up-to-requires-2
+up_to_requires_2 : tie.Need-up_to-requires-2
 up_to_requires_2 c κs = search rules
 
-returns_3 : tie.Need-returns-3
+returns_3 : tie.Need-returns
 returns_3 c =
     let x = c.before.before.before.before.before.before.before.before.before.before.before in
     let s = begun x in
-    let rest = x.before.before.before.before.from_on.result in
-    let head = c.before.first_member.result in (
-      pick_change s.requires.5 x.before.before.before.before.before.lowest-place.ensures (far x) s.requires.0 s.requires.1 s.requires.2 (lead x) c.before.before.before.before.before.before.before.before.first-assignment.ensures (omega (arith, c.before.before.before.before.before.before.before.before.before.if1.false)) rest (sym c.before.before.before.before.comes-before.ensures ∙ not-false _ c.before.before.before.if2.false)
-          c.before.first_member.ensures x.before.before.before.before.from_on.ensures c.up-to2.ensures,
-      rest_fewer _ x.before.before.before.before.before.lowest-place.ensures (λ e h. after x e (and_right (leb e head) (bit rest e) (sym (c.up-to2.ensures e) ∙ h))),
+    let rest = x.before.before.before.before.from_on-rest.result in
+    let head = c.before.first_member-head.result in (
+      pick_change s.requires.5 x.before.before.before.before.before.lowest_place-p.ensures (far x) s.requires.0 s.requires.1 s.requires.2 (lead x) c.before.before.before.before.before.before.before.before.first_assignment-f.ensures (omega (arith, c.before.before.before.before.before.before.before.before.before.if-t-s.false)) rest (sym c.before.before.before.before.comes_before.ensures ∙ not-false _ c.before.before.before.if-not-comes_before.false-raw)
+          c.before.first_member-head.ensures x.before.before.before.before.from_on-rest.ensures c.up_to-2.ensures,
+      rest_fewer _ x.before.before.before.before.before.lowest_place-p.ensures (λ e h. after x e (and_right (leb e head) (bit rest e) (sym (c.up_to-2.ensures e) ∙ h))),
     )
 
 pub next_spec : {M : Type 1} → statement M

@@ -19,106 +19,106 @@ use Rattle.items.proofs.Groups.{MemberRead, member_read, step_star, step_member,
 use Rattle.items.proofs.group.group_end.Statement.{statement}
 use Rattle.items.proofs.group.group_end.Tie as tie
 
-abbrev invariant_loop : tie.invariant-loop
+abbrev invariant_loop : tie.invariant-loop-more
 invariant_loop t at n m stars sort places₀ block p₀ count₀ star₀ more₀ places p count star more = Going (family_of sort) (lower_of sort) (upper_of sort) t stars at n m places₀ p count star places more
 
-abbrev decreases_loop : tie.decreases-loop
+abbrev decreases_loop : tie.decreases-loop-more
 decreases_loop t at n m stars sort places₀ block p₀ count₀ star₀ more₀ places p count star more = more
 
-loop_holds : tie.Need-loop-init invariant_loop decreases_loop
+loop_holds : tie.Need-loop-more-init invariant_loop decreases_loop
 loop_holds c =
     let w = c.before.requires in
     let a = c.before.args in
     go_start (family_of a.sort) (lower_of a.sort) (upper_of a.sort) a.t.now a.stars a.at a.n a.m _ w.0.1 w.0.0 w.1 w.2
 
-integer_member_end_requires : tie.Need-integer-member-end-requires invariant_loop decreases_loop
-integer_member_end_requires c κs = let g = c.before.before.before.before.loop.invariant in ((g.inside, g.short), g.size)
+integer_member_end_requires : tie.Need-integer_member_end-p-requires invariant_loop decreases_loop
+integer_member_end_requires c κs = let g = c.before.before.before.before.loop-more.invariant in ((g.inside, g.short), g.size)
 
-other_member_end_requires : tie.Need-other-member-end-requires invariant_loop decreases_loop
-other_member_end_requires c κs = let g = c.before.before.before.before.loop.invariant in ((g.inside, g.short), g.size)
+other_member_end_requires : tie.Need-other_member_end-p-requires invariant_loop decreases_loop
+other_member_end_requires c κs = let g = c.before.before.before.before.loop-more.invariant in ((g.inside, g.short), g.size)
 
 -- either way, an item was read as a member, or refused as one
-item_read : (c : tie.Joined1 invariant_loop decreases_loop) → MemberRead (family_of c.before.before.before.before.before.args.sort) (lower_of c.before.before.before.before.before.args.sort) (upper_of c.before.before.before.before.before.args.sort) c.before.before.before.before.before.args.t.now c.before.before.before.loop.p c.before.before.before.loop.count c.before.before.before.loop.places c.if1.p c.if1.places
+item_read : (c : tie.Joined-sort-eq-WHOLE invariant_loop decreases_loop) → MemberRead (family_of c.before.before.before.before.before.args.sort) (lower_of c.before.before.before.before.before.args.sort) (upper_of c.before.before.before.before.before.args.sort) c.before.before.before.before.before.args.t.now c.before.before.before.loop-more.p c.before.before.before.loop-more.count c.before.before.before.loop-more.places c.if-sort-eq-WHOLE.p c.if-sort-eq-WHOLE.places
 item_read c =
     let turn = c.before.before.before in
     let a = turn.before.before.args in
-    let again : List ℕ → ℕ → Type 0 = λ after r. MemberRead (family_of a.sort) (lower_of a.sort) (upper_of a.sort) a.t.now turn.loop.p turn.loop.count turn.loop.places r after in
+    let again : List ℕ → ℕ → Type 0 = λ after r. MemberRead (family_of a.sort) (lower_of a.sort) (upper_of a.sort) a.t.now turn.loop-more.p turn.loop-more.count turn.loop-more.places r after in
     ⊎_elim
-    (λ w. subst₂ again (sym w.3) (sym w.4) (member_read a.sort whole a.t.now turn.loop.p turn.loop.count turn.loop.places _ _ w.0.taken w.2.ensures))
-    (λ w. subst₂ again (sym w.3) (sym w.4) (member_read a.sort a.sort a.t.now turn.loop.p turn.loop.count turn.loop.places _ _ refl w.2.ensures))
-    c.if1.branch
+    (λ w. subst₂ again (sym w.places-is) (sym w.p-is) (member_read a.sort whole a.t.now turn.loop-more.p turn.loop-more.count turn.loop-more.places _ _ w.if-sort-eq-WHOLE.true w.integer_member_end-p.ensures))
+    (λ w. subst₂ again (sym w.places-is) (sym w.p-is) (member_read a.sort a.sort a.t.now turn.loop-more.p turn.loop-more.count turn.loop-more.places _ _ refl w.2.ensures))
+    c.if-sort-eq-WHOLE.branch-raw
 
-kind_at_requires : tie.Need-kind-at-requires invariant_loop decreases_loop
+kind_at_requires : tie.Need-kind_at-requires invariant_loop decreases_loop
 kind_at_requires c κs = search rules
 
-returns : tie.Need-returns invariant_loop decreases_loop
+returns : tie.Need-returns-then-not-stars-kind_at invariant_loop decreases_loop
 returns c =
     let turn = c.before.before.before.before.before.before in
     let a = turn.before.before.args in
     let read = item_read c.before.before.before in
     let kind = c.before.kind_at.ensures in (
-      go_stop (family_of a.sort) (lower_of a.sort) (upper_of a.sort) a.t.now a.stars turn.loop.invariant _ _ _ _ c.before.before.before.before.before.loop-test.true
-          (step_member (sym (ap (λ (k : ℕ). a.stars && eqb k 32) kind) ∙ not-true _ c.if3.true) read.read refl refl)
-          c.before.before.if2.true,
+      go_stop (family_of a.sort) (lower_of a.sort) (upper_of a.sort) a.t.now a.stars turn.loop-more.invariant _ _ _ _ c.before.before.before.before.before.loop-more-test.true
+          (step_member (sym (ap (λ (k : ℕ). a.stars && eqb k 32) kind) ∙ not-true _ c.if-not-stars-kind_at.true-raw) read.read refl refl)
+          c.before.before.if-p-gt-FAULT.true,
       read.size,
     )
 
-star_end_requires : tie.Need-star-end-requires invariant_loop decreases_loop
-star_end_requires c κs = let g = c.before.before.before.before.before.before.loop.invariant in (g.inside, g.short)
+star_end_requires : tie.Need-star_end-p-requires invariant_loop decreases_loop
+star_end_requires c κs = let g = c.before.before.before.before.before.before.loop-more.invariant in (g.inside, g.short)
 
-returns_2 : tie.Need-returns-2 invariant_loop decreases_loop
+returns_2 : tie.Need-returns-then-p-gt-FAULT-2 invariant_loop decreases_loop
 returns_2 c =
     let turn = c.before.before.before.before.before.before.before.before in
     let a = turn.before.before.args in
     let read = item_read c.before.before.before.before.before in
     let kind = c.before.before.before.kind_at.ensures in (
-      go_stop (family_of a.sort) (lower_of a.sort) (upper_of a.sort) a.t.now a.stars turn.loop.invariant _ _ _ _ c.before.before.before.before.before.before.before.loop-test.true
-          (step_star (sym (ap (λ (k : ℕ). a.stars && eqb k 32) kind) ∙ not-false _ c.before.before.if3.false) c.before.star-end.ensures refl refl read.stays)
-          c.if4.true,
+      go_stop (family_of a.sort) (lower_of a.sort) (upper_of a.sort) a.t.now a.stars turn.loop-more.invariant _ _ _ _ c.before.before.before.before.before.before.before.loop-more-test.true
+          (step_star (sym (ap (λ (k : ℕ). a.stars && eqb k 32) kind) ∙ not-false _ c.before.before.if-not-stars-kind_at.false-raw) c.before.star_end-p.ensures refl refl read.stays)
+          c.if-p-gt-FAULT-2.true,
       read.size,
     )
 
-add_star : tie.Need-overflow-add-star invariant_loop decreases_loop
-add_star c = let g = c.before.before.before.before.before.before.before.before.loop.invariant in omega (arith, g.inside, g.short)
+add_star : tie.Need-overflow_add-star invariant_loop decreases_loop
+add_star c = let g = c.before.before.before.before.before.before.before.before.loop-more.invariant in omega (arith, g.inside, g.short)
 
-add_count : tie.Need-overflow-add-count invariant_loop decreases_loop
-add_count c = let g = c.before.before.before.before.loop.invariant in omega (arith, g.few)
+add_count : tie.Need-overflow_add-count invariant_loop decreases_loop
+add_count c = let g = c.before.before.before.before.loop-more.invariant in omega (arith, g.few)
 
-sub_more : tie.Need-overflow-sub-more invariant_loop decreases_loop
-sub_more c = c.before.before.before.loop-test.true
+sub_more : tie.Need-overflow_sub-more invariant_loop decreases_loop
+sub_more c = c.before.before.before.loop-more-test.true
 
-loop_less : tie.Need-loop-smaller invariant_loop decreases_loop
-loop_less c = omega (arith, c.before.before.before.loop-test.true)
+loop_less : tie.Need-loop-more-smaller invariant_loop decreases_loop
+loop_less c = omega (arith, c.before.before.before.loop-more-test.true)
 
-loop_again : tie.Need-loop-preserved invariant_loop decreases_loop
+loop_again : tie.Need-loop-more-preserved invariant_loop decreases_loop
 loop_again c =
     let turn = c.before.before.before.before in
     let a = turn.before.before.args in
     let read = item_read c.before in
-    let starred : ℕ → Type 0 = λ r. Noted (StarNotes a.t.now turn.loop.p r) a.t.now (star_here (not (eqb turn.loop.star 0)) (drop turn.loop.p a.t.now)) (fault_in r) r in
-    let again : ℕ → Type 0 = λ r. MemberRead (family_of a.sort) (lower_of a.sort) (upper_of a.sort) a.t.now turn.loop.p turn.loop.count turn.loop.places r c.before.if1.places in
+    let starred : ℕ → Type 0 = λ r. Noted (StarNotes a.t.now turn.loop-more.p r) a.t.now (star_here (not (eqb turn.loop-more.star 0)) (drop turn.loop-more.p a.t.now)) (fault_in r) r in
+    let again : ℕ → Type 0 = λ r. MemberRead (family_of a.sort) (lower_of a.sort) (upper_of a.sort) a.t.now turn.loop-more.p turn.loop-more.count turn.loop-more.places r c.before.if-sort-eq-WHOLE.places in
     ⊎_elim
     (λ w.
-    go_step (family_of a.sort) (lower_of a.sort) (upper_of a.sort) a.t.now a.stars turn.loop.invariant _ _ _ _ c.before.before.before.loop-test.true
+    go_step (family_of a.sort) (lower_of a.sort) (upper_of a.sort) a.t.now a.stars turn.loop-more.invariant _ _ _ _ c.before.before.before.loop-more-test.true
     (step_star (sym (ap (λ (k : ℕ). a.stars && eqb k 32) w.1.ensures) ∙ not-false _ w.2.left) (subst starred (sym w.5) w.3.ensures) w.6 w.7 read.stays)
     read.size (omega (arith, w.4.left, w.5)))
     (λ w.
-    let under : c.if2.p ≤ 16777215 = omega (arith, w.0.left, w.1) in
+    let under : c.if-p-gt-FAULT.p ≤ 16777215 = omega (arith, w.0.left, w.1) in
     let placed = subst again (sym w.1) read in
-    go_step (family_of a.sort) (lower_of a.sort) (upper_of a.sort) a.t.now a.stars turn.loop.invariant _ _ _ _ c.before.before.before.loop-test.true (step_member (member_item (family_of a.sort) (lower_of a.sort) (upper_of a.sort) a.t.now a.stars turn.loop.p turn.loop.count _ placed.read under) placed.read w.2 w.3) read.size under)
-    c.if2.branch
+    go_step (family_of a.sort) (lower_of a.sort) (upper_of a.sort) a.t.now a.stars turn.loop-more.invariant _ _ _ _ c.before.before.before.loop-more-test.true (step_member (member_item (family_of a.sort) (lower_of a.sort) (upper_of a.sort) a.t.now a.stars turn.loop-more.p turn.loop-more.count _ placed.read under) placed.read w.2 w.3) read.size under)
+    c.if-p-gt-FAULT.branch
 
-group_block_requires : tie.Need-group-block-requires invariant_loop decreases_loop
+group_block_requires : tie.Need-group_block-requires invariant_loop decreases_loop
 group_block_requires c κs =
-    let g = c.before.loop.invariant in
+    let g = c.before.loop-more.invariant in
     let a = c.before.before.before.args in
-    gathered_counts (family_of a.sort) (lower_of a.sort) (upper_of a.sort) a.t.now a.stars a.n a.m _ _ _ _ _ _ _ c.before.before.before.requires.1 (omega (arith, g.inside, g.short)) (go_end (family_of a.sort) (lower_of a.sort) (upper_of a.sort) a.t.now a.stars g (omega (arith, c.loop-test.false)))
+    gathered_counts (family_of a.sort) (lower_of a.sort) (upper_of a.sort) a.t.now a.stars a.n a.m _ _ _ _ _ _ _ c.before.before.before.requires.1 (omega (arith, g.inside, g.short)) (go_end (family_of a.sort) (lower_of a.sort) (upper_of a.sort) a.t.now a.stars g (omega (arith, c.loop-more-test.false)))
 
-returns_3 : tie.Need-returns-3 invariant_loop decreases_loop
+returns_3 : tie.Need-returns invariant_loop decreases_loop
 returns_3 c =
-    let g = c.before.before.loop.invariant in
+    let g = c.before.before.loop-more.invariant in
     let a = c.before.before.before.before.args in
-    (noted_told (λ x q w. gathered_block (family_of a.sort) a.t.now a.m _ _ _ _ _ x w c.group-block.ensures) (go_end (family_of a.sort) (lower_of a.sort) (upper_of a.sort) a.t.now a.stars g (omega (arith, c.before.loop-test.false))), g.size)
+    (noted_told (λ x q w. gathered_block (family_of a.sort) a.t.now a.m _ _ _ _ _ x w c.group_block.ensures) (go_end (family_of a.sort) (lower_of a.sort) (upper_of a.sort) a.t.now a.stars g (omega (arith, c.before.loop-more-test.false))), g.size)
 
 pub group_end_spec : {M : Type 1} → statement M
 group_end_spec =

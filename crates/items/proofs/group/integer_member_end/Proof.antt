@@ -10,13 +10,13 @@ use Rattle.items.proofs.group.integer_member_end.Lts as lts
 use Rattle.elements.proofs.integer_head_end.Reads as integer-head-end-reads
 use Rattle.items.proofs.group.numbered_end.Reads as numbered-end-reads
 
-integer_head_end_requires : tie.Need-integer-head-end-requires
+integer_head_end_requires : tie.Need-integer_head_end-end-requires
 integer_head_end_requires c κs = search rules
 
-numbered_end_requires : tie.Need-numbered-end-requires
+numbered_end_requires : tie.Need-numbered_end-requires
 numbered_end_requires c κs =
     let s = c.before.before.before in
-    (s.requires.0, sort_whole s.args.t.now s.args.at _ whole refl c.before.integer-head-end.ensures, s.requires.1)
+    (s.requires.0, sort_whole s.args.t.now s.args.at _ whole refl c.before.integer_head_end-end.ensures, s.requires.1)
 
 returns : tie.Need-returns
 returns c = search rules

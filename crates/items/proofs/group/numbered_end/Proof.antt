@@ -17,40 +17,40 @@ use Rattle.items.proofs.group.numbered_end.Lts as lts
 use Rattle.elements.proofs.refusal.Reads as refusal-reads
 use Rattle.elements.proofs.rest_end.Reads as rest-end-reads
 
-returns : tie.Need-returns
+returns : tie.Need-returns-then-end-gt-FAULT
 returns c =
     let start = c.before.before in
     let a = start.args in
-    let v = member_fault (leaves_for a.sort) a.t.now a.at a.m _ start.requires.0.1 start.requires.1 c.if1.true in
-    (stopped v.0 (omega (arith, c.if1.true)) v.1, start.requires.2, refl)
+    let v = member_fault (leaves_for a.sort) a.t.now a.at a.m _ start.requires.0.1 start.requires.1 c.if-end-gt-FAULT.true in
+    (stopped v.0 (omega (arith, c.if-end-gt-FAULT.true)) v.1, start.requires.2, refl)
 
 refusal_requires : tie.Need-refusal-requires
 refusal_requires c κs = search rules
 
-returns_2 : tie.Need-returns-2
+returns_2 : tie.Need-returns-then-m-gt-LAST_MEMBER
 returns_2 c =
     let start = c.before.before.before.before in
     let a = start.args in
-    (stopped_as 8 (member_over (leaves_for a.sort) a.t.now a.at a.m _ start.requires.0.1 start.requires.1 c.before.before.if1.false c.before.if2.true) (omega arith) (omega arith) (omega (arith, c.refusal.ensures)), start.requires.2, refl)
+    (stopped_as 8 (member_over (leaves_for a.sort) a.t.now a.at a.m _ start.requires.0.1 start.requires.1 c.before.before.if-end-gt-FAULT.false c.before.if-m-gt-LAST_MEMBER.true) (omega arith) (omega arith) (omega (arith, c.refusal.ensures)), start.requires.2, refl)
 
-rest_end_requires : tie.Need-rest-end-requires
+rest_end_requires : tie.Need-rest_end-rest-requires
 rest_end_requires c κs = search rules
 
-cast_places : tie.Need-overflow-cast-places
+cast_places : tie.Need-overflow_cast-places
 cast_places c = search rules
 
-mul_places : tie.Need-overflow-mul-places
+mul_places : tie.Need-offset_bounds-places-m
 mul_places c = search rules
 
-element_write_places : tie.Need-element-write-places
+element_write_places : tie.Need-bounds-places-m
 element_write_places c = search rules
 
-returns_3 : tie.Need-returns-3
+returns_3 : tie.Need-returns
 returns_3 c =
     let start = c.before.before.before.before in
     let a = start.args in
     let w = start.requires in
-    (member_noted (family_of a.sort) (lower_of a.sort) (upper_of a.sort) a.t.now a.at a.m _ a.places.now w.0.0 c.before.if2.false w.2 c.rest-end.ensures, length-set a.places.now a.m a.at ∙ w.2, take-set-le a.m a.places.now a.m a.at (omega arith))
+    (member_noted (family_of a.sort) (lower_of a.sort) (upper_of a.sort) a.t.now a.at a.m _ a.places.now w.0.0 c.before.if-m-gt-LAST_MEMBER.false w.2 c.rest_end-rest.ensures, length-set a.places.now a.m a.at ∙ w.2, take-set-le a.m a.places.now a.m a.at (omega arith))
 
 pub numbered_end_spec : {M : Type 1} → statement M
 numbered_end_spec =

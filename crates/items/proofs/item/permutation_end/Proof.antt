@@ -16,46 +16,46 @@ use Rattle.elements.proofs.count_fault.Reads as count-fault-reads
 use Rattle.elements.proofs.refusal.Reads as refusal-reads
 use Rattle.items.proofs.group.group_end.Reads as group-end-reads
 
-count_fault_requires : tie.Need-count-fault-requires
+count_fault_requires : tie.Need-count_fault-code-requires
 count_fault_requires c κs = search rules
 
 refusal_requires : tie.Need-refusal-requires
 refusal_requires c κs = search rules
 
-returns : tie.Need-returns
+returns : tie.Need-returns-then-code-ne-DONE
 returns c =
     let start = c.before.before.before.before in
     let a = start.args in
-    let b = c.before.before.count-fault in
-    (stopped_as b.result (permutation_fault (leaves_for a.sort) a.t.now a.at a.m _ b.ensures c.before.if1.true) (omega (arith, c.before.if1.true)) (search rules) (omega (arith, c.refusal.ensures)), start.requires.2)
+    let b = c.before.before.count_fault-code in
+    (stopped_as b.result (permutation_fault (leaves_for a.sort) a.t.now a.at a.m _ b.ensures c.before.if-code-ne-DONE.true) (omega (arith, c.before.if-code-ne-DONE.true)) (search rules) (omega (arith, c.refusal.ensures)), start.requires.2)
 
-add_group_end : tie.Need-overflow-add-group-end
+add_group_end : tie.Need-overflow_add-at
 add_group_end c = search rules
 
-add_group_end_2 : tie.Need-overflow-add-group-end-2
+add_group_end_2 : tie.Need-overflow_add-at-2
 add_group_end_2 c = search rules
 
-shared_slice_read_group_end : tie.Need-shared-slice-read-group-end
+shared_slice_read_group_end : tie.Need-bounds-t-at
 shared_slice_read_group_end c =
     let a = c.before.before.before.before.args in
-    omega (arith, (count_inv 1 32 a.t.now a.at (sym c.before.before.count-fault.ensures ∙ c.before.if1.false)).fits)
+    omega (arith, (count_inv 1 32 a.t.now a.at (sym c.before.before.count_fault-code.ensures ∙ c.before.if-code-ne-DONE.false)).fits)
 
-cast_group_end : tie.Need-overflow-cast-group-end
-cast_group_end c = omega (arith, c.shared-slice-known2.given (c.before.before.before.before.args.at + 1))
+cast_group_end : tie.Need-overflow_cast-t
+cast_group_end c = omega (arith, c.shared_slice_known-2-1.given (c.before.before.before.before.args.at + 1))
 
-group_end_requires : tie.Need-group-end-requires
+group_end_requires : tie.Need-group_end-requires
 group_end_requires c κs =
     let start = c.before.before.before.before.before.before in
     let a = start.args in
     let read = c.before.before.before.before in
-    (((count_inv 1 32 a.t.now a.at (sym read.count-fault.ensures ∙ c.before.before.before.if1.false)).fits, start.requires.0.1), start.requires.1, start.requires.2)
+    (((count_inv 1 32 a.t.now a.at (sym read.count_fault-code.ensures ∙ c.before.before.before.if-code-ne-DONE.false)).fits, start.requires.0.1), start.requires.1, start.requires.2)
 
-returns_2 : tie.Need-returns-2
+returns_2 : tie.Need-returns
 returns_2 c =
     let start = c.before.before.before.before.before.before.before in
     let a = start.args in
     let read = c.before.before.before.before.before in
-    (permutation_noted (family_of a.sort) (lower_of a.sort) (upper_of a.sort) a.t.now a.at a.m _ read.count-fault.ensures c.before.before.before.before.if1.false _ _ _ _ c.group-end.ensures.0, c.group-end.ensures.1)
+    (permutation_noted (family_of a.sort) (lower_of a.sort) (upper_of a.sort) a.t.now a.at a.m _ read.count_fault-code.ensures c.before.before.before.before.if-code-ne-DONE.false _ _ _ _ c.group_end.ensures.0, c.group_end.ensures.1)
 
 pub permutation_end_spec : {M : Type 1} → statement M
 permutation_end_spec =

@@ -12,39 +12,39 @@ use Rattle.items.proofs.item.spares_end.Lts as lts
 use Rattle.blocks.proofs.number_of.Reads as number-of-reads
 use Rattle.items.proofs.group.star_end.Reads as star-end-reads
 
-star_end_requires : tie.Need-star-end-requires
+star_end_requires : tie.Need-star_end-end-requires
 star_end_requires c κs = search rules
 
-returns : tie.Need-returns
+returns : tie.Need-returns-then-end-gt-FAULT
 returns c =
-    λ fam places. map_noted as_spares (λ st q v. v) (stopped_on c.before.star-end.ensures (omega (arith, c.if1.true)))
+    λ fam places. map_noted as_spares (λ st q v. v) (stopped_on c.before.star_end-end.ensures (omega (arith, c.if-end-gt-FAULT.true)))
 
-cast_t8 : tie.Need-overflow-cast-t8
+cast_t8 : tie.Need-overflow_cast-m
 cast_t8 c = search rules
 
-add_t9 : tie.Need-overflow-add-t9
+add_t9 : tie.Need-overflow_add-at
 add_t9 c = search rules
 
-shared_slice_read_t11 : tie.Need-shared-slice-read-t11
+shared_slice_read_t11 : tie.Need-bounds-t-at
 shared_slice_read_t11 c =
     let start = c.before.before.before.before in
-    let v = noted_read _ _ _ _ _ c.before.before.star-end.ensures (omega (arith, c.before.if1.false)) in
+    let v = noted_read _ _ _ _ _ c.before.before.star_end-end.ensures (omega (arith, c.before.if-end-gt-FAULT.false)) in
     omega (arith, v.2.size, v.3)
 
-add_t12 : tie.Need-overflow-add-t12
+add_t12 : tie.Need-overflow_add-at-2
 add_t12 c = search rules
 
-shared_slice_read_t14 : tie.Need-shared-slice-read-t14
+shared_slice_read_t14 : tie.Need-bounds-t-at-2
 shared_slice_read_t14 c =
-    let v = noted_read _ _ _ _ _ c.before.before.before.star-end.ensures (omega (arith, c.before.before.if1.false)) in
+    let v = noted_read _ _ _ _ _ c.before.before.before.star_end-end.ensures (omega (arith, c.before.before.if-end-gt-FAULT.false)) in
     omega (arith, v.2.size, v.3)
 
-number_of_requires : tie.Need-number-of-requires
+number_of_requires : tie.Need-number_of-requires
 number_of_requires c κs = search rules
 
-returns_2 : tie.Need-returns-2
+returns_2 : tie.Need-returns
 returns_2 c =
-    λ fam places. map_noted as_spares (λ st q v. spares_item fam _ _ _ _ _ places st v c.number_of_lem.ensures) c.before.before.before.before.star-end.ensures
+    λ fam places. map_noted as_spares (λ st q v. spares_item fam _ _ _ _ _ places st v c.number_of.ensures) c.before.before.before.before.star_end-end.ensures
 
 pub spares_end_spec : {M : Type 1} → statement M
 spares_end_spec =

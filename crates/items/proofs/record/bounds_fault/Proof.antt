@@ -8,38 +8,38 @@ use Rattle.items.proofs.record.bounds_fault.Reads as reads
 use Rattle.items.proofs.record.bounds_fault.Lts as lts
 use Rattle.format.proofs.bad_bounds.Reads as bad-bounds-reads
 
-sub_if1 : tie.Need-overflow-sub-if1
+sub_if1 : tie.Need-overflow_sub-t
 sub_if1 c = search rules
 
-returns : tie.Need-returns
+returns : tie.Need-returns-then-t-at-lt-BOUNDS_SIZE
 returns c =
     let a = c.before.before.args in
-    bounds_short a.t.now a.at c.if1.true
+    bounds_short a.t.now a.at c.if-t-at-lt-BOUNDS_SIZE.true
 
-add_bad_bounds : tie.Need-overflow-add-bad-bounds
+add_bad_bounds : tie.Need-overflow_add-at
 add_bad_bounds c = search rules
 
-shared_slice_read_bad_bounds : tie.Need-shared-slice-read-bad-bounds
+shared_slice_read_bad_bounds : tie.Need-bounds-t-at
 shared_slice_read_bad_bounds c = search rules
 
-add_bad_bounds_2 : tie.Need-overflow-add-bad-bounds-2
+add_bad_bounds_2 : tie.Need-overflow_add-at-2
 add_bad_bounds_2 c = search rules
 
-shared_slice_read_bad_bounds_2 : tie.Need-shared-slice-read-bad-bounds-2
+shared_slice_read_bad_bounds_2 : tie.Need-bounds-t-at-2
 shared_slice_read_bad_bounds_2 c = search rules
 
-bad_bounds_requires : tie.Need-bad-bounds-requires
+bad_bounds_requires : tie.Need-bad_bounds-requires
 bad_bounds_requires c κs = search rules
 
-returns_2 : tie.Need-returns-2
+returns_2 : tie.Need-returns-then-bad_bounds
 returns_2 c =
     let a = c.before.before.before.before.before.before.args in
-    bounds_bad a.t.now a.at c.before.before.before.before.if1.false (sym c.before.bad-bounds.ensures ∙ c.if2.true)
+    bounds_bad a.t.now a.at c.before.before.before.before.if-t-at-lt-BOUNDS_SIZE.false (sym c.before.bad_bounds.ensures ∙ c.if-bad_bounds.true)
 
-returns_3 : tie.Need-returns-3
+returns_3 : tie.Need-returns
 returns_3 c =
     let a = c.before.before.before.before.before.before.args in
-    bounds_right a.t.now a.at c.before.before.before.before.if1.false (sym c.before.bad-bounds.ensures ∙ c.if2.false)
+    bounds_right a.t.now a.at c.before.before.before.before.if-t-at-lt-BOUNDS_SIZE.false (sym c.before.bad_bounds.ensures ∙ c.if-bad_bounds.false)
 
 pub bounds_fault_spec : {M : Type 1} → statement M
 bounds_fault_spec =

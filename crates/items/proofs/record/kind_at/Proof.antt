@@ -10,18 +10,18 @@ use Rattle.items.proofs.record.kind_at.Tie as tie
 use Rattle.items.proofs.record.kind_at.Reads as reads
 use Rattle.items.proofs.record.kind_at.Lts as lts
 
-shared_slice_read_result : tie.Need-shared-slice-read-result
+shared_slice_read_result : tie.Need-bounds-t-at
 shared_slice_read_result c = search rules
 
-returns : tie.Need-returns
+returns : tie.Need-returns-then-at-t
 returns c =
     let a = c.before.before.args in
     sym (kind_at a.t.now a.at)
 
-returns_2 : tie.Need-returns-2
+returns_2 : tie.Need-returns-else-at-t
 returns_2 c =
     let a = c.before.args in
-    sym (ap (λ (l : List ℕ). get_or l 0 0) (drop_of_length-le a.t.now {i = a.at} c.if1.false))
+    sym (ap (λ (l : List ℕ). get_or l 0 0) (drop_of_length-le a.t.now {i = a.at} c.if-at-t.false))
 
 pub kind_at_spec : {M : Type 1} → statement M
 kind_at_spec = tie.close (tie.spec shared_slice_read_result returns returns_2)

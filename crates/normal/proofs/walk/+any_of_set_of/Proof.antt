@@ -56,14 +56,14 @@ any_of_calls t = (bounds-at-reads.Asked, bounds-at-reads.Learnt, set_of_below t,
 abbrev set_of_calls : ℕ → set-of-lts.Claims
 set_of_calls t = (any_of_below t, any_of.Post, left-out-reads.Asked, left-out-reads.Learnt)
 
-abbrev any_of_Inv_loop : any-of-lts.invariant-loop
+abbrev any_of_Inv_loop : any-of-lts.invariant-loop-more
 any_of_Inv_loop t from n left lo₀ hi₀ s₀ more₀ lo hi s more = Walking t from n left lo₀ hi₀ lo hi s more
 
-abbrev any_of_μ_loop : any-of-lts.decreases-loop
+abbrev any_of_μ_loop : any-of-lts.decreases-loop-more
 any_of_μ_loop t from n left lo₀ hi₀ s₀ more₀ lo hi s more = more
 
 -- a turn: where the walk stands
-module _ (t : ℕ) (c : any-of-lts.In-loop (any_of_calls t) (any_of_at t) any_of.Post any_of_Inv_loop any_of_μ_loop) where
+module _ (t : ℕ) (c : any-of-lts.In-loop-more (any_of_calls t) (any_of_at t) any_of.Post any_of_Inv_loop any_of_μ_loop) where
   abbrev called : any-of-lts.Start (any_of_calls t) (any_of_at t) any_of.Post any_of_Inv_loop any_of_μ_loop
   called = c.before.before.before
 
@@ -73,96 +73,96 @@ module _ (t : ℕ) (c : any-of-lts.In-loop (any_of_calls t) (any_of_at t) any_of
   given : MembersFrom all called.args.from called.args.n called.args.left called.args.lo.now called.args.hi.now
   given = called.requires.1
 
-  going : Walking all called.args.from called.args.n called.args.left called.args.lo.now called.args.hi.now c.before.loop.lo c.before.loop.hi c.before.loop.s c.before.loop.more
-  going = c.before.loop.invariant
+  going : Walking all called.args.from called.args.n called.args.left called.args.lo.now called.args.hi.now c.before.loop-more.lo c.before.loop-more.hi c.before.loop-more.s c.before.loop-more.more
+  going = c.before.loop-more.invariant
 
 -- a leaf more
-module _ (t : ℕ) (c : any-of-lts.After-bounds-at (any_of_calls t) (any_of_at t) any_of.Post any_of_Inv_loop any_of_μ_loop) where
-  abbrev leaf_turn : any-of-lts.In-loop (any_of_calls t) (any_of_at t) any_of.Post any_of_Inv_loop any_of_μ_loop
+module _ (t : ℕ) (c : any-of-lts.After-bounds_at-l (any_of_calls t) (any_of_at t) any_of.Post any_of_Inv_loop any_of_μ_loop) where
+  abbrev leaf_turn : any-of-lts.In-loop-more (any_of_calls t) (any_of_at t) any_of.Post any_of_Inv_loop any_of_μ_loop
   leaf_turn = c.before.before.before
 
-  room : count_in leaf_turn.before.loop.s < 128
-  room = leaf_room _ _ _ _ _ _ _ _ _ _ (going t leaf_turn) (given t leaf_turn) leaf_turn.loop-test.taken c.before.if1.true _ _ _ c.bounds-at.ensures
+  room : count_in leaf_turn.before.loop-more.s < 128
+  room = leaf_room _ _ _ _ _ _ _ _ _ _ (going t leaf_turn) (given t leaf_turn) leaf_turn.loop-more-test.true c.before.if-kind-lt-LIST.true _ _ _ c.bounds_at-l.ensures
 
-  low_room : count_in leaf_turn.before.loop.s < length leaf_turn.before.loop.lo
+  low_room : count_in leaf_turn.before.loop-more.s < length leaf_turn.before.loop-more.lo
   low_room = omega (arith, room, (going t leaf_turn).more.size_low, (given t leaf_turn).room.size_low)
 
-  high_room : count_in leaf_turn.before.loop.s < length leaf_turn.before.loop.hi
+  high_room : count_in leaf_turn.before.loop-more.s < length leaf_turn.before.loop-more.hi
   high_room = omega (arith, room, (going t leaf_turn).more.size_high, (given t leaf_turn).room.size_high)
 
-  short : c.bounds-at.result.next < 65536
-  short = next_short _ _ _ _ _ _ _ _ _ _ (going t leaf_turn) (given t leaf_turn) leaf_turn.loop-test.taken c.before.if1.true _ _ _ c.bounds-at.ensures
+  short : c.bounds_at-l.result.next < 65536
+  short = next_short _ _ _ _ _ _ _ _ _ _ (going t leaf_turn) (given t leaf_turn) leaf_turn.loop-more-test.true c.before.if-kind-lt-LIST.true _ _ _ c.bounds_at-l.ensures
 
-any_of_loop_holds : (t : ℕ) → any-of-lts.Need-loop-init (any_of_calls t) (any_of_at t) any_of.Post any_of_Inv_loop any_of_μ_loop
+any_of_loop_holds : (t : ℕ) → any-of-lts.Need-loop-more-init (any_of_calls t) (any_of_at t) any_of.Post any_of_Inv_loop any_of_μ_loop
 any_of_loop_holds t c = walking_start _ _ _ _ _ _ c.before.requires.1
 
-any_of_shared_slice_read_kind : (t : ℕ) → any-of-lts.Need-shared-slice-read-kind (any_of_calls t) (any_of_at t) any_of.Post any_of_Inv_loop any_of_μ_loop
-any_of_shared_slice_read_kind t c = let i = c.before in omega (arith, here_fits _ _ _ (walking_here _ _ _ _ _ _ _ _ _ _ (going t i) (given t i) i.loop-test.true))
+any_of_shared_slice_read_kind : (t : ℕ) → any-of-lts.Need-bounds-t-p (any_of_calls t) (any_of_at t) any_of.Post any_of_Inv_loop any_of_μ_loop
+any_of_shared_slice_read_kind t c = let i = c.before in omega (arith, here_fits _ _ _ (walking_here _ _ _ _ _ _ _ _ _ _ (going t i) (given t i) i.loop-more-test.true))
 
-any_of_bounds_at_requires : (t : ℕ) → any-of-lts.Need-bounds-at-requires (any_of_calls t) (any_of_at t) any_of.Post any_of_Inv_loop any_of_μ_loop
-any_of_bounds_at_requires t c κs = let i = c.before.before in leaf_at _ _ _ _ _ _ _ _ _ _ (going t i) (given t i) i.loop-test.true c.if1.true
+any_of_bounds_at_requires : (t : ℕ) → any-of-lts.Need-bounds_at-l-requires (any_of_calls t) (any_of_at t) any_of.Post any_of_Inv_loop any_of_μ_loop
+any_of_bounds_at_requires t c κs = let i = c.before.before in leaf_at _ _ _ _ _ _ _ _ _ _ (going t i) (given t i) i.loop-more-test.true c.if-kind-lt-LIST.true
 
-any_of_mul_a : (t : ℕ) → any-of-lts.Need-overflow-mul-a (any_of_calls t) (any_of_at t) any_of.Post any_of_Inv_loop any_of_μ_loop
+any_of_mul_a : (t : ℕ) → any-of-lts.Need-offset_bounds-lo-w (any_of_calls t) (any_of_at t) any_of.Post any_of_Inv_loop any_of_μ_loop
 any_of_mul_a t c = omega (arith, room t c.before.before)
 
-any_of_slice_set_from_a : (t : ℕ) → any-of-lts.Need-slice-set-from-a (any_of_calls t) (any_of_at t) any_of.Post any_of_Inv_loop any_of_μ_loop
+any_of_slice_set_from_a : (t : ℕ) → any-of-lts.Need-bounds-lo-w (any_of_calls t) (any_of_at t) any_of.Post any_of_Inv_loop any_of_μ_loop
 any_of_slice_set_from_a t c = low_room t c.before.before
 
-any_of_mul_b : (t : ℕ) → any-of-lts.Need-overflow-mul-b (any_of_calls t) (any_of_at t) any_of.Post any_of_Inv_loop any_of_μ_loop
+any_of_mul_b : (t : ℕ) → any-of-lts.Need-offset_bounds-hi-w (any_of_calls t) (any_of_at t) any_of.Post any_of_Inv_loop any_of_μ_loop
 any_of_mul_b t c = omega (arith, room t c.before.before)
 
-any_of_slice_set_from_b : (t : ℕ) → any-of-lts.Need-slice-set-from-b (any_of_calls t) (any_of_at t) any_of.Post any_of_Inv_loop any_of_μ_loop
+any_of_slice_set_from_b : (t : ℕ) → any-of-lts.Need-bounds-hi-w (any_of_calls t) (any_of_at t) any_of.Post any_of_Inv_loop any_of_μ_loop
 any_of_slice_set_from_b t c = high_room t c.before.before
 
-any_of_add_s : (t : ℕ) → any-of-lts.Need-overflow-add-s (any_of_calls t) (any_of_at t) any_of.Post any_of_Inv_loop any_of_μ_loop
+any_of_add_s : (t : ℕ) → any-of-lts.Need-overflow_add-s (any_of_calls t) (any_of_at t) any_of.Post any_of_Inv_loop any_of_μ_loop
 any_of_add_s t c = omega (arith, room t c.before.before)
 
-any_of_mul_s : (t : ℕ) → any-of-lts.Need-overflow-mul-s (any_of_calls t) (any_of_at t) any_of.Post any_of_Inv_loop any_of_μ_loop
+any_of_mul_s : (t : ℕ) → any-of-lts.Need-overflow_mul-s (any_of_calls t) (any_of_at t) any_of.Post any_of_Inv_loop any_of_μ_loop
 any_of_mul_s t c = omega (arith, room t c.before.before)
 
-any_of_add_s_2 : (t : ℕ) → any-of-lts.Need-overflow-add-s-2 (any_of_calls t) (any_of_at t) any_of.Post any_of_Inv_loop any_of_μ_loop
+any_of_add_s_2 : (t : ℕ) → any-of-lts.Need-overflow_add-s-then-kind-lt-LIST (any_of_calls t) (any_of_at t) any_of.Post any_of_Inv_loop any_of_μ_loop
 any_of_add_s_2 t c = omega (arith, room t c.before.before.before, short t c.before.before.before)
 
-any_of_set_of_requires : (t : ℕ) → any-of-lts.Need-set-of-requires (any_of_calls t) (any_of_at t) any_of.Post any_of_Inv_loop any_of_μ_loop
+any_of_set_of_requires : (t : ℕ) → any-of-lts.Need-set_of-s-requires (any_of_calls t) (any_of_at t) any_of.Post any_of_Inv_loop any_of_μ_loop
 any_of_set_of_requires t c κs =
     let i = c.before.before.before.before in (
       omega (arith, (called t i).requires.0),
       record {
-        here = walking_here _ _ _ _ _ _ _ _ _ _ (going t i) (given t i) i.loop-test.true;
-        group = omega (arith, c.before.before.if1.false);
-        room = walking_room _ _ _ _ _ _ _ _ _ _ (going t i) (given t i) i.loop-test.true;
+        here = walking_here _ _ _ _ _ _ _ _ _ _ (going t i) (given t i) i.loop-more-test.true;
+        group = omega (arith, c.before.before.if-kind-lt-LIST.false);
+        room = walking_room _ _ _ _ _ _ _ _ _ _ (going t i) (given t i) i.loop-more-test.true;
       },
     )
 
-any_of_sub_more : (t : ℕ) → any-of-lts.Need-overflow-sub-more (any_of_calls t) (any_of_at t) any_of.Post any_of_Inv_loop any_of_μ_loop
-any_of_sub_more t c = omega (arith, c.before.before.loop-test.true)
+any_of_sub_more : (t : ℕ) → any-of-lts.Need-overflow_sub-more (any_of_calls t) (any_of_at t) any_of.Post any_of_Inv_loop any_of_μ_loop
+any_of_sub_more t c = omega (arith, c.before.before.loop-more-test.true)
 
-any_of_loop_less : (t : ℕ) → any-of-lts.Need-loop-smaller (any_of_calls t) (any_of_at t) any_of.Post any_of_Inv_loop any_of_μ_loop
-any_of_loop_less t c = omega (arith, c.before.before.loop-test.true)
+any_of_loop_less : (t : ℕ) → any-of-lts.Need-loop-more-smaller (any_of_calls t) (any_of_at t) any_of.Post any_of_Inv_loop any_of_μ_loop
+any_of_loop_less t c = omega (arith, c.before.before.loop-more-test.true)
 
-any_of_loop_again : (t : ℕ) → any-of-lts.Need-loop-preserved (any_of_calls t) (any_of_at t) any_of.Post any_of_Inv_loop any_of_μ_loop
+any_of_loop_again : (t : ℕ) → any-of-lts.Need-loop-more-preserved (any_of_calls t) (any_of_at t) any_of.Post any_of_Inv_loop any_of_μ_loop
 any_of_loop_again t c =
     let i = c.before.before in
     ⊎_elim
     (λ w.
-    let a = w.1.result.lower in
-    let b = w.1.result.upper in
+    let a = w.bounds_at-l.result.lower in
+    let b = w.bounds_at-l.result.upper in
     let wa : Word a = search rules in
     let wb : Word b = search rules in
-    rw (w.5, w.6, w.7, again_same a wa, again_same b wb)
-    (walking_leaf _ _ _ _ _ _ _ _ _ _ (going t i) (given t i) i.loop-test.true w.0.taken _ _ _ w.1.ensures))
+    rw (w.lo-is, w.hi-is, w.s-is, again_same a wa, again_same b wb)
+    (walking_leaf _ _ _ _ _ _ _ _ _ _ (going t i) (given t i) i.loop-more-test.true w.if-kind-lt-LIST.true _ _ _ w.bounds_at-l.ensures))
     (λ w.
-    rw (w.6, w.7, w.8) (walking_call _ _ _ _ _ _ _ _ _ _ (going t i) (given t i) i.loop-test.true _ _ _ w.3.ensures))
-    c.if1.branch
+    rw (w.lo-is, w.hi-is, w.s-is) (walking_call _ _ _ _ _ _ _ _ _ _ (going t i) (given t i) i.loop-more-test.true _ _ _ w.set_of-s.ensures))
+    c.if-kind-lt-LIST.branch-raw
 
-any_of_same_length : (t : ℕ) → any-of-lts.Need-same-length (any_of_calls t) (any_of_at t) any_of.Post any_of_Inv_loop any_of_μ_loop
-any_of_same_length t c = c.before.loop.invariant.more.size_low
+any_of_same_length : (t : ℕ) → any-of-lts.Need-shape_of-lo (any_of_calls t) (any_of_at t) any_of.Post any_of_Inv_loop any_of_μ_loop
+any_of_same_length t c = c.before.loop-more.invariant.more.size_low
 
-any_of_same_length_2 : (t : ℕ) → any-of-lts.Need-same-length-2 (any_of_calls t) (any_of_at t) any_of.Post any_of_Inv_loop any_of_μ_loop
-any_of_same_length_2 t c = c.before.loop.invariant.more.size_high
+any_of_same_length_2 : (t : ℕ) → any-of-lts.Need-shape_of-hi (any_of_calls t) (any_of_at t) any_of.Post any_of_Inv_loop any_of_μ_loop
+any_of_same_length_2 t c = c.before.loop-more.invariant.more.size_high
 
 any_of_returns : (t : ℕ) → any-of-lts.Need-returns (any_of_calls t) (any_of_at t) any_of.Post any_of_Inv_loop any_of_μ_loop
-any_of_returns t c = walking_end _ _ _ _ _ _ _ _ _ _ c.before.loop.invariant (omega (arith, c.loop-test.false))
+any_of_returns t c = walking_end _ _ _ _ _ _ _ _ _ _ c.before.loop-more.invariant (omega (arith, c.loop-more-test.false))
 
 -- at the entry: a list or a complement
 module _ (t : ℕ) (s : set-of-lts.Start (set_of_calls t) (set_of_at t) set-of.Post) where
@@ -182,41 +182,41 @@ module _ (t : ℕ) (s : set-of-lts.Start (set_of_calls t) (set_of_at t) set-of.P
   few : count_in from ≤ 128
   few = omega (arith, stands.room.few, stands.here.few)
 
-set_of_add_any_of : (t : ℕ) → set-of-lts.Need-overflow-add-any-of (set_of_calls t) (set_of_at t) set-of.Post
+set_of_add_any_of : (t : ℕ) → set-of-lts.Need-overflow_add-from (set_of_calls t) (set_of_at t) set-of.Post
 set_of_add_any_of t c = omega (arith, few t c.before)
 
-set_of_add_any_of_2 : (t : ℕ) → set-of-lts.Need-overflow-add-any-of-2 (set_of_calls t) (set_of_at t) set-of.Post
+set_of_add_any_of_2 : (t : ℕ) → set-of-lts.Need-overflow_add-at (set_of_calls t) (set_of_at t) set-of.Post
 set_of_add_any_of_2 t c = omega (arith, fits t c.before)
 
-set_of_shared_slice_read_any_of : (t : ℕ) → set-of-lts.Need-shared-slice-read-any-of (set_of_calls t) (set_of_at t) set-of.Post
+set_of_shared_slice_read_any_of : (t : ℕ) → set-of-lts.Need-bounds-t-at (set_of_calls t) (set_of_at t) set-of.Post
 set_of_shared_slice_read_any_of t c = omega (arith, fits t c.before.before)
 
-set_of_cast_any_of : (t : ℕ) → set-of-lts.Need-overflow-cast-any-of (set_of_calls t) (set_of_at t) set-of.Post
-set_of_cast_any_of t c = omega (arith, c.shared-slice-known2.given (place_in (from t c.before.before) + 1))
+set_of_cast_any_of : (t : ℕ) → set-of-lts.Need-overflow_cast-t (set_of_calls t) (set_of_at t) set-of.Post
+set_of_cast_any_of t c = omega (arith, c.shared_slice_known-2-1.given (place_in (from t c.before.before) + 1))
 
-set_of_sub_any_of : (t : ℕ) → set-of-lts.Need-overflow-sub-any-of (set_of_calls t) (set_of_at t) set-of.Post
+set_of_sub_any_of : (t : ℕ) → set-of-lts.Need-overflow_sub-left (set_of_calls t) (set_of_at t) set-of.Post
 set_of_sub_any_of t c = omega (arith, fits t c.before.before)
 
-set_of_any_of_requires : (t : ℕ) → set-of-lts.Need-any-of-requires (set_of_calls t) (set_of_at t) set-of.Post
+set_of_any_of_requires : (t : ℕ) → set-of-lts.Need-any_of-r-requires (set_of_calls t) (set_of_at t) set-of.Post
 set_of_any_of_requires t c κs =
     let s = c.before.before.before.before in
     (omega (arith, s.requires.0, fits t s), members_from _ _ _ _ _ (stands t s))
 
 -- what the members gave
-module _ (t : ℕ) (c : set-of-lts.After-any-of (set_of_calls t) (set_of_at t) set-of.Post) where
+module _ (t : ℕ) (c : set-of-lts.After-any_of-r (set_of_calls t) (set_of_at t) set-of.Post) where
   abbrev start : set-of-lts.Start (set_of_calls t) (set_of_at t) set-of.Post
   start = c.before.before.before.before.before
 
   abbrev los : List ℤ
-  los = c.any_of.new.1.1.1.1.0
+  los = c.any_of-r.new.lo
 
   abbrev his : List ℤ
-  his = c.any_of.new.1.1.1.1.1.0
+  his = c.any_of-r.new.hi
 
-  gathered : GatheredAll (bytes t start) (from t start + 2) (get_or (bytes t start) (place_in (from t start) + 1) 0) (start.args.left - 1) start.args.lo.now start.args.hi.now los his c.any_of.result
-  gathered = c.any_of.ensures
+  gathered : GatheredAll (bytes t start) (from t start + 2) (get_or (bytes t start) (place_in (from t start) + 1) 0) (start.args.left - 1) start.args.lo.now start.args.hi.now los his c.any_of-r.result
+  gathered = c.any_of-r.ensures
 
-  all_small : count_in c.any_of.result ≤ 128
+  all_small : count_in c.any_of-r.result ≤ 128
   all_small = all_few _ _ _ _ _ (stands t start) _ _ _ gathered
 
   low_long : length los ≡ 130
@@ -225,54 +225,54 @@ module _ (t : ℕ) (c : set-of-lts.After-any-of (set_of_calls t) (set_of_at t) s
   high_long : length his ≡ 130
   high_long = gathered.more.size_high ∙ (stands t start).room.size_high
 
-  not_fewer : count_in (from t start) ≤ count_in c.any_of.result
+  not_fewer : count_in (from t start) ≤ count_in c.any_of-r.result
   not_fewer = omega (arith, gathered.more.count, same_ranges _ _ _ _ _ (stands t start))
 
-  own : view (count_in c.any_of.result - count_in (from t start)) (take (length los - count_in (from t start)) (drop (count_in (from t start)) los)) (take (length his - count_in (from t start)) (drop (count_in (from t start)) his)) ≡ gathered.found
+  own : view (count_in c.any_of-r.result - count_in (from t start)) (take (length los - count_in (from t start)) (drop (count_in (from t start)) los)) (take (length his - count_in (from t start)) (drop (count_in (from t start)) his)) ≡ gathered.found
   own = own_ranges _ _ _ _ _ (stands t start) _ _ _ gathered
 
-set_of_shared_slice_read_kind : (t : ℕ) → set-of-lts.Need-shared-slice-read-kind (set_of_calls t) (set_of_at t) set-of.Post
+set_of_shared_slice_read_kind : (t : ℕ) → set-of-lts.Need-bounds-t-at-2 (set_of_calls t) (set_of_at t) set-of.Post
 set_of_shared_slice_read_kind t c = let s = c.before.before.before.before.before.before.before.before in omega (arith, fits t s)
 
-set_of_same_length : (t : ℕ) → set-of-lts.Need-same-length (set_of_calls t) (set_of_at t) set-of.Post
+set_of_same_length : (t : ℕ) → set-of-lts.Need-shape_of-lo-then-kind-eq-LIST (set_of_calls t) (set_of_at t) set-of.Post
 set_of_same_length t c = (gathered t c.before.before.before.before).more.size_low
 
-set_of_same_length_2 : (t : ℕ) → set-of-lts.Need-same-length-2 (set_of_calls t) (set_of_at t) set-of.Post
+set_of_same_length_2 : (t : ℕ) → set-of-lts.Need-shape_of-hi-then-kind-eq-LIST (set_of_calls t) (set_of_at t) set-of.Post
 set_of_same_length_2 t c = (gathered t c.before.before.before.before).more.size_high
 
-set_of_returns : (t : ℕ) → set-of-lts.Need-returns (set_of_calls t) (set_of_at t) set-of.Post
+set_of_returns : (t : ℕ) → set-of-lts.Need-returns-then-kind-eq-LIST (set_of_calls t) (set_of_at t) set-of.Post
 set_of_returns t c =
     let a = c.before.before.before.before in
-    list_gathered _ _ _ _ _ (stands t (start t a)) _ _ _ (gathered t a) c.if1.true
+    list_gathered _ _ _ _ _ (stands t (start t a)) _ _ _ (gathered t a) c.if-kind-eq-LIST.true
 
-set_of_mul_left_out : (t : ℕ) → set-of-lts.Need-overflow-mul-left-out (set_of_calls t) (set_of_at t) set-of.Post
+set_of_mul_left_out : (t : ℕ) → set-of-lts.Need-offset_bounds-lo-n (set_of_calls t) (set_of_at t) set-of.Post
 set_of_mul_left_out t c = let a = c.before.before.before.before in omega (arith, few t (start t a))
 
-set_of_sub_left_out : (t : ℕ) → set-of-lts.Need-overflow-sub-left-out (set_of_calls t) (set_of_at t) set-of.Post
+set_of_sub_left_out : (t : ℕ) → set-of-lts.Need-slice_bounds-left_out-count (set_of_calls t) (set_of_at t) set-of.Post
 set_of_sub_left_out t c = let a = c.before.before.before.before in omega (arith, few t (start t a), low_long t a)
 
-set_of_part_left_out_start : (t : ℕ) → set-of-lts.Need-slice-bounds-left-out-start (set_of_calls t) (set_of_at t) set-of.Post
+set_of_part_left_out_start : (t : ℕ) → set-of-lts.Need-slice_bounds-left_out-start (set_of_calls t) (set_of_at t) set-of.Post
 set_of_part_left_out_start t c = let a = c.before.before.before.before in omega (arith, few t (start t a), low_long t a)
 
-set_of_part_left_out_end : (t : ℕ) → set-of-lts.Need-slice-bounds-left-out-end (set_of_calls t) (set_of_at t) set-of.Post
+set_of_part_left_out_end : (t : ℕ) → set-of-lts.Need-slice_bounds-left_out-end (set_of_calls t) (set_of_at t) set-of.Post
 set_of_part_left_out_end t c = omega arith
 
-set_of_mul_left_out_2 : (t : ℕ) → set-of-lts.Need-overflow-mul-left-out-2 (set_of_calls t) (set_of_at t) set-of.Post
+set_of_mul_left_out_2 : (t : ℕ) → set-of-lts.Need-offset_bounds-hi-n (set_of_calls t) (set_of_at t) set-of.Post
 set_of_mul_left_out_2 t c = let a = c.before.before.before.before.before in omega (arith, few t (start t a))
 
-set_of_sub_left_out_2 : (t : ℕ) → set-of-lts.Need-overflow-sub-left-out-2 (set_of_calls t) (set_of_at t) set-of.Post
+set_of_sub_left_out_2 : (t : ℕ) → set-of-lts.Need-slice_bounds-left_out-count-2 (set_of_calls t) (set_of_at t) set-of.Post
 set_of_sub_left_out_2 t c = let a = c.before.before.before.before.before in omega (arith, few t (start t a), high_long t a)
 
-set_of_part_left_out_start_2 : (t : ℕ) → set-of-lts.Need-slice-bounds-left-out-start-2 (set_of_calls t) (set_of_at t) set-of.Post
+set_of_part_left_out_start_2 : (t : ℕ) → set-of-lts.Need-slice_bounds-left_out-start-2 (set_of_calls t) (set_of_at t) set-of.Post
 set_of_part_left_out_start_2 t c = let a = c.before.before.before.before.before in omega (arith, few t (start t a), high_long t a)
 
-set_of_part_left_out_end_2 : (t : ℕ) → set-of-lts.Need-slice-bounds-left-out-end-2 (set_of_calls t) (set_of_at t) set-of.Post
+set_of_part_left_out_end_2 : (t : ℕ) → set-of-lts.Need-slice_bounds-left_out-end-2 (set_of_calls t) (set_of_at t) set-of.Post
 set_of_part_left_out_end_2 t c = omega arith
 
-set_of_sub_left_out_3 : (t : ℕ) → set-of-lts.Need-overflow-sub-left-out-3 (set_of_calls t) (set_of_at t) set-of.Post
+set_of_sub_left_out_3 : (t : ℕ) → set-of-lts.Need-overflow_sub-r (set_of_calls t) (set_of_at t) set-of.Post
 set_of_sub_left_out_3 t c = not_fewer t c.before.before.before.before.before.before
 
-set_of_left_out_requires : (t : ℕ) → set-of-lts.Need-left-out-requires (set_of_calls t) (set_of_at t) set-of.Post
+set_of_left_out_requires : (t : ℕ) → set-of-lts.Need-left_out-g-requires (set_of_calls t) (set_of_at t) set-of.Post
 set_of_left_out_requires t c κs =
     let a = c.before.before.before.before.before.before in
     let n = count_in (from t (start t a)) in (
@@ -282,42 +282,42 @@ set_of_left_out_requires t c κs =
     )
 
 -- what is left out of them
-module _ (t : ℕ) (c : set-of-lts.After-left-out (set_of_calls t) (set_of_at t) set-of.Post) where
-  abbrev walked : set-of-lts.After-any-of (set_of_calls t) (set_of_at t) set-of.Post
+module _ (t : ℕ) (c : set-of-lts.After-left_out-g (set_of_calls t) (set_of_at t) set-of.Post) where
+  abbrev walked : set-of-lts.After-any_of-r (set_of_calls t) (set_of_at t) set-of.Post
   walked = c.before.before.before.before.before.before.before
 
-  most : count_in (from t (start t walked)) + c.left_out.result ≤ 130
+  most : count_in (from t (start t walked)) + c.left_out-g.result ≤ 130
   most =
-      omega (arith, c.left_out.ensures.fits.0, lent_length (los t walked) (count_in (from t (start t walked))) (omega (arith, few t (start t walked), low_long t walked)), low_long t walked, few t (start t walked))
+      omega (arith, c.left_out-g.ensures.fits.0, lent_length (los t walked) (count_in (from t (start t walked))) (omega (arith, few t (start t walked), low_long t walked)), low_long t walked, few t (start t walked))
 
   turned : GatheredHere (bytes t (start t walked)) (from t (start t walked)) (start t walked).args.left (start t walked).args.lo.now (start t walked).args.hi.now
-      (put_mid (count_in (from t (start t walked))) (length (los t walked) - count_in (from t (start t walked))) (los t walked) c.left_out.new.0)
-      (put_mid (count_in (from t (start t walked))) (length (his t walked) - count_in (from t (start t walked))) (his t walked) c.left_out.new.1.0)
-      ((count_in (from t (start t walked)) + c.left_out.result) * 65536 + place_in walked.any_of.result)
+      (put_mid (count_in (from t (start t walked))) (length (los t walked) - count_in (from t (start t walked))) (los t walked) c.left_out-g.new.lo)
+      (put_mid (count_in (from t (start t walked))) (length (his t walked) - count_in (from t (start t walked))) (his t walked) c.left_out-g.new.hi)
+      ((count_in (from t (start t walked)) + c.left_out-g.result) * 65536 + place_in walked.any_of-r.result)
   turned =
-      complement_gathered _ _ _ _ _ (stands t (start t walked)) _ _ _ (gathered t walked) c.left_out.new.0 c.left_out.new.1.0 c.left_out.result c.before.before.before.if1.false
-      c.left_out.ensures
+      complement_gathered _ _ _ _ _ (stands t (start t walked)) _ _ _ (gathered t walked) c.left_out-g.new.lo c.left_out-g.new.hi c.left_out-g.result c.before.before.before.if-kind-eq-LIST.false
+      c.left_out-g.ensures
 
-set_of_add_result : (t : ℕ) → set-of-lts.Need-overflow-add-result (set_of_calls t) (set_of_at t) set-of.Post
+set_of_add_result : (t : ℕ) → set-of-lts.Need-overflow_add-result (set_of_calls t) (set_of_at t) set-of.Post
 set_of_add_result t c = omega (arith, most t c.before.before)
 
-set_of_mul_result : (t : ℕ) → set-of-lts.Need-overflow-mul-result (set_of_calls t) (set_of_at t) set-of.Post
+set_of_mul_result : (t : ℕ) → set-of-lts.Need-overflow_mul-result (set_of_calls t) (set_of_at t) set-of.Post
 set_of_mul_result t c = omega (arith, most t c.before.before)
 
-set_of_add_result_2 : (t : ℕ) → set-of-lts.Need-overflow-add-result-2 (set_of_calls t) (set_of_at t) set-of.Post
+set_of_add_result_2 : (t : ℕ) → set-of-lts.Need-overflow_add-result-2 (set_of_calls t) (set_of_at t) set-of.Post
 set_of_add_result_2 t c = omega (arith, most t c.before.before)
 
-set_of_same_length_3 : (t : ℕ) → set-of-lts.Need-same-length-3 (set_of_calls t) (set_of_at t) set-of.Post
+set_of_same_length_3 : (t : ℕ) → set-of-lts.Need-shape_of-lo (set_of_calls t) (set_of_at t) set-of.Post
 set_of_same_length_3 t c = (turned t c.before.before).more.size_low
 
-set_of_same_length_4 : (t : ℕ) → set-of-lts.Need-same-length-4 (set_of_calls t) (set_of_at t) set-of.Post
+set_of_same_length_4 : (t : ℕ) → set-of-lts.Need-shape_of-hi (set_of_calls t) (set_of_at t) set-of.Post
 set_of_same_length_4 t c = (turned t c.before.before).more.size_high
 
-set_of_returns_2 : (t : ℕ) → set-of-lts.Need-returns-2 (set_of_calls t) (set_of_at t) set-of.Post
+set_of_returns_2 : (t : ℕ) → set-of-lts.Need-returns (set_of_calls t) (set_of_at t) set-of.Post
 set_of_returns_2 t c = turned t c.before.before
 
-pub +any-of-set-of-spec : {M : Type 1} → statement M
-+any-of-set-of-spec = close μ_any_of μ_set_of (λ t. any-of-lts.spec (any_of_calls t)
+pub +any_of_set_of_spec : {M : Type 1} → statement M
++any_of_set_of_spec = close μ_any_of μ_set_of (λ t. any-of-lts.spec (any_of_calls t)
     (any_of_at t)
     any_of.Post
     any_of_Inv_loop

@@ -23,7 +23,7 @@ returns : tie.Need-returns
 returns c =
     let made = c.before in
     let read = made.before.before in
-    c.number_of_lem.ensures.1 ∙ rw (made.together2.ensures, made.before.together.ensures, read.block-of2.ensures, read.before.Block-of.ensures) refl
+    c.number_of.ensures.1 ∙ rw (made.together2.ensures, made.before.together.ensures, read.block-of2.ensures, read.before.Block-of.ensures) refl
 
 pub in_one_spec : {M : Type 1} → statement M
 in_one_spec =
