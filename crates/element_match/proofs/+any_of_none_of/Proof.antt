@@ -80,7 +80,7 @@ any_of_returns t c =
     let turned = placed.before in
     let walk = turned.before.before in
     retold false _ _ _ _ _ _ _ (sym c.said.ensures.0) (sym c.said.ensures.1)
-    (turned_round _ _ _ _ _ _ _ _ _ _ turned.others.ensures (retold true _ _ _ _ _ _ _ (sym turned.before.mask_in-rest.ensures) (sym placed.IsPlace-in.ensures) walk.none_of-r.ensures))
+    (turned_round _ _ _ _ _ _ _ _ _ _ turned.others.ensures (retold true _ _ _ _ _ _ _ (sym turned.before.mask_in.ensures) (sym placed.place_in.ensures) walk.none_of-r.ensures))
 
 -- ---- none_of
 
@@ -185,10 +185,10 @@ complement_here : (t : ℕ) (c : none-of-lts.Else-kind-gt-COMPLEMENT (none_calls
 complement_here t c = complement_kind _ c.before.before.if-kind-lt-LIST.false c.before.if-kind-eq-LIST.false c.if-kind-gt-COMPLEMENT.false
 
 complement_missed : (t : ℕ) (c : none-of-lts.After-place_in-p (none_calls t) (none_of_at t) none_of.Post invariant_loop decreases_loop)
-    → Misses t c.before.before.before.before.before.before.before.before c.before.mask_in-rest.result c.IsPlace-in.result
+    → Misses t c.before.before.before.before.before.before.before.before c.before.mask_in-rest.result c.place_in-p.result
 complement_missed t c =
     let walk = c.before.before in
-    member_retold _ _ _ _ _ _ c.before.mask_in-rest.ensures c.IsPlace-in.ensures
+    member_retold _ _ _ _ _ _ c.before.mask_in-rest.ensures c.place_in-p.ensures
     (complement_misses _ _ _ _ _ _ _ _ (complement_here t walk.before.before) walk.any_of-r.ensures)
 
 complement_less : (t : ℕ) → none-of-lts.Need-loop-more-smaller (none_calls t) (none_of_at t) none_of.Post invariant_loop decreases_loop
@@ -209,7 +209,7 @@ pub +any_of_none_of_spec : {M : Type 1} → statement M
     (λ c κs.
     let walk = c.before.before.before in
     let asks = walk.before.before.before.requires.1 in
-    omega (arith, c.IsPlace-in.ensures, (walk.none_of-r.ensures asks.family).inside, asks.short))
+    omega (arith, c.place_in.ensures, (walk.none_of-r.ensures asks.family).inside, asks.short))
     (any_of_returns t))
     λ t. none-of-lts.spec (none_calls t) (none_of_at t) none_of.Post invariant_loop decreases_loop
     -- loop_holds, shared_slice_read_kind

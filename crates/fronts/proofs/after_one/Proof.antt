@@ -17,7 +17,7 @@ add_with_place c = search rules
 with_place_requires : tie.Need-with_place-requires
 with_place_requires c κs = let p = c.before.requires.3 _ c.lowest_place-q.ensures.inside in omega arith
 
-add_t9 : tie.Need-overflow-add-t9
+add_t9 : tie.Need-overflow_add-result
 add_t9 c = search rules
 
 returns : tie.Need-returns

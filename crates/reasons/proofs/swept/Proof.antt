@@ -65,10 +65,10 @@ loop_again c =
     let again : ℕ → Type 0 = λ r. Sweeping a.rows.now a.n a.w a.group (l.loop-e.e + 1) r in (
       omega arith,
       ⊎_elim
-          (λ w. subst again (sym w.with-r) (sweep_owner i.1 (omega arith) (omega (arith, w.0.taken)) (subst (Meets _ _) w.3.taken w.2.ensures) w.4.ensures))
+          (λ w. subst again (sym w.r-is) (sweep_owner i.1 (omega arith) (omega (arith, w.if-owner-lt-MEMBERS_MOST.true)) (subst (Meets _ _) w.if-meets.true w.meets.ensures) w.with-r.ensures))
           (⊎_elim
-          (λ w. subst again (sym w.4) (sweep_apart i.1 (subst (Meets _ _) w.3.left w.2.ensures)))
-          (λ w. subst again (sym w.1) (sweep_spare i.1 (omega (arith, w.0.left)))))
+          (λ w. subst again (sym w.r-is) (sweep_apart i.1 (subst (Meets _ _) w.if-meets.false w.meets.ensures)))
+          (λ w. subst again (sym w.r-is) (sweep_spare i.1 (omega (arith, w.if-owner-lt-MEMBERS_MOST.false)))))
           c.if-owner-lt-MEMBERS_MOST.branch-raw,
     )
 

@@ -19,24 +19,24 @@ use Rattle.fronts.proofs.pick.next.Tie as tie
 abbrev begun : tie.After-highest_place-t → tie.Start
 begun c = c.before.before.before.before.before.before
 
-lead : (c : tie.After-highest_place-t) → Leads (may (begun c).args.rows.now) (begun c).args.b (begun c).args.ends c.before.before.before.before.before.lowest_place-p.result
-lead c = (begun c).requires.3.each _ ((begun c).requires.5.inside _ c.before.before.before.before.before.lowest_place-p.ensures.inside)
+lead : (c : tie.After-highest_place-t) → Leads (may (begun c).args.rows.now) (begun c).args.b (begun c).args.ends c.lowest_place-p.result
+lead c = (begun c).requires.3.each _ ((begun c).requires.5.inside _ c.lowest_place-p.ensures.inside)
 
-far : (c : tie.After-highest_place-t) → Furthest (begun c).args.ends (c.before.before.before.before.before.lowest_place-p.result + ((begun c).args.b.k + (begun c).args.b.max)) c.highest_place-t.result
-far c = furthest_is c.before.up_to.result c.before.up_to.ensures c.highest_place-t.ensures
+far : (c : tie.After-highest_place-t) → Furthest (begun c).args.ends (c.lowest_place-p.result + ((begun c).args.b.k + (begun c).args.b.max)) c.highest_place-t.result
+far c = furthest_is c.up_to.result c.up_to.ensures c.highest_place-t.ensures
 
-order : (c : tie.After-highest_place-t) → c.before.before.before.before.before.lowest_place-p.result ≤ c.highest_place-t.result
+order : (c : tie.After-highest_place-t) → c.lowest_place-p.result ≤ c.highest_place-t.result
 order c = omega (arith, lead_order (lead c) (far c))
 
 high : (c : tie.After-highest_place-t) → c.highest_place-t.result ≤ 32
 high c = (begun c).requires.2 _ (far c).here
 
 -- the places that are left come after this one
-after : (c : tie.After-highest_place-t) (e : ℕ) → bit c.before.before.before.before.from_on-rest.result e ≡ true → (c.before.before.before.before.before.lowest_place-p.result < e) × (bit (begun c).args.s.rest e ≡ true)
+after : (c : tie.After-highest_place-t) (e : ℕ) → bit c.from_on-rest.result e ≡ true → (c.lowest_place-p.result < e) × (bit (begun c).args.s.rest e ≡ true)
 after c e h =
-    let p = c.before.before.before.before.before.lowest_place-p.result in
+    let p = c.lowest_place-p.result in
     let rest = (begun c).args.s.rest in
-    let x = sym (c.before.before.before.before.from_on-rest.ensures e) ∙ h in
+    let x = sym (c.from_on-rest.ensures e) ∙ h in
     let l = leb-true (p + 1) e (and_left (leb (p + 1) e) (bit rest e) x) in
     (omega arith, and_right (leb (p + 1) e) (bit rest e) x)
 
@@ -65,13 +65,13 @@ up_to_requires : tie.Need-up_to-requires
 up_to_requires c κs = search rules
 
 highest_place_requires : tie.Need-highest_place-t-requires
-highest_place_requires c κs = lead_cut c.up_to.result (c.before.before.before.before.before.requires.3.each _ (c.before.before.before.before.before.requires.5.inside _ c.before.before.before.before.lowest_place-p.ensures.inside)) c.up_to.ensures
+highest_place_requires c κs = lead_cut c.up_to.result (c.requires.3.each _ (c.requires.5.inside _ c.lowest_place-p.ensures.inside)) c.up_to.ensures
 
 returns : tie.Need-returns-then-t-s
 returns c =
     let x = c.before.before in
     let s = begun x in
-    (pick_skip s.requires.5 x.before.before.before.before.before.lowest_place-p.ensures (far x) (omega arith) x.before.before.before.before.from_on-rest.ensures, rest_fewer _ x.before.before.before.before.before.lowest_place-p.ensures (after x))
+    (pick_skip s.requires.5 x.lowest_place-p.ensures (far x) (omega arith) x.from_on-rest.ensures, rest_fewer _ x.lowest_place-p.ensures (after x))
 
 cast_first_assignment : tie.Need-overflow_cast-p
 cast_first_assignment c = search rules
@@ -87,28 +87,28 @@ comes_before_requires c κs = search rules
 
 returns_2 : tie.Need-returns-then-not-comes_before
 returns_2 c =
-    let x = c.before.before.before.before.before.before.before.before in
+    let x = c.before.before.before.before.before.before.before in
     let s = begun x in (
-      pick_keep s.requires.5 x.before.before.before.before.before.lowest_place-p.ensures (far x) s.requires.0 s.requires.1 s.requires.2 (lead x) c.before.before.before.before.before.first_assignment-f.ensures (omega arith) (sym c.before.comes_before.ensures ∙ not-true _ c.if-not-comes_before.true-raw)
-          x.before.before.before.before.from_on-rest.ensures,
-      rest_fewer _ x.before.before.before.before.before.lowest_place-p.ensures (after x),
+      pick_keep s.requires.5 x.lowest_place-p.ensures (far x) s.requires.0 s.requires.1 s.requires.2 (lead x) c.first_assignment-f.ensures (omega arith) (sym c.comes_before.ensures ∙ not-true _ c.if-not-comes_before.true-raw)
+          x.from_on-rest.ensures,
+      rest_fewer _ x.lowest_place-p.ensures (after x),
     )
 
 first_member_requires : tie.Need-first_member-head-requires
-first_member_requires c κs = let x = c.before.before.before.before.before.before.before.before.before in (order x, high x)
+first_member_requires c κs = let x = c.before.before.before.before.before.before.before in (order x, high x)
 
 up_to_requires_2 : tie.Need-up_to-requires-2
 up_to_requires_2 c κs = search rules
 
 returns_3 : tie.Need-returns
 returns_3 c =
-    let x = c.before.before.before.before.before.before.before.before.before.before.before in
+    let x = c.before.before.before.before.before.before.before.before.before in
     let s = begun x in
-    let rest = x.before.before.before.before.from_on-rest.result in
-    let head = c.before.first_member-head.result in (
-      pick_change s.requires.5 x.before.before.before.before.before.lowest_place-p.ensures (far x) s.requires.0 s.requires.1 s.requires.2 (lead x) c.before.before.before.before.before.before.before.before.first_assignment-f.ensures (omega (arith, c.before.before.before.before.before.before.before.before.before.if-t-s.false)) rest (sym c.before.before.before.before.comes_before.ensures ∙ not-false _ c.before.before.before.if-not-comes_before.false-raw)
-          c.before.first_member-head.ensures x.before.before.before.before.from_on-rest.ensures c.up_to-2.ensures,
-      rest_fewer _ x.before.before.before.before.before.lowest_place-p.ensures (λ e h. after x e (and_right (leb e head) (bit rest e) (sym (c.up_to-2.ensures e) ∙ h))),
+    let rest = x.from_on-rest.result in
+    let head = c.first_member-head.result in (
+      pick_change s.requires.5 x.lowest_place-p.ensures (far x) s.requires.0 s.requires.1 s.requires.2 (lead x) c.first_assignment-f.ensures (omega (arith, c.if-t-s.false)) rest (sym c.comes_before.ensures ∙ not-false _ c.if-not-comes_before.false-raw)
+          c.first_member-head.ensures x.from_on-rest.ensures c.up_to-2.ensures,
+      rest_fewer _ x.lowest_place-p.ensures (λ e h. after x e (and_right (leb e head) (bit rest e) (sym (c.up_to-2.ensures e) ∙ h))),
     )
 
 pub next_spec : {M : Type 1} → statement M

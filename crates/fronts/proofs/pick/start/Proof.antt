@@ -13,7 +13,7 @@ abbrev least : tie.After-up_to-near → tie.After-lowest_place-p
 least c = c.before.before.before.before.before.before
 
 within : (c : tie.After-up_to-near) → Within (least c).before.args.b (least c).before.args.ends (least c).lowest_place-p.result c.up_to-near.result
-within c = within_is c.before.from_on.result c.before.from_on.ensures c.up_to-near.ensures
+within c = within_is c.from_on.result c.from_on.ensures c.up_to-near.ensures
 
 far : (c : tie.After-highest_place-t) → let l = least c.before.before in Furthest l.before.args.ends (l.lowest_place-p.result + (l.before.args.b.k + l.before.args.b.max)) c.highest_place-t.result
 far c = near_furthest (within c.before.before) c.highest_place-t.ensures
@@ -83,7 +83,7 @@ returns_2 c =
     tried_none l.lowest_place-p.ensures.inside (leads_found s.requires.0 s.requires.2 (far h) f.first_assignment-f.ensures (not-true _ c.if-not-f.true))
 
 first_member_requires : tie.Need-first_member-head-requires
-first_member_requires c κs = let h = c.before.before.before.before.before in (omega (arith, long h), high h)
+first_member_requires c κs = let h = c.before.before.before.before in (omega (arith, long h), high h)
 
 add_from_on_2 : tie.Need-overflow_add-p-3
 add_from_on_2 c = search rules
@@ -97,14 +97,14 @@ up_to_requires_2 c κs = search rules
 returns_3 : tie.Need-returns
 returns_3 c =
     let m = c.before.before in
-    let e = m.before.before.before in
+    let e = m.before.before in
     let f = e.before.before in
     let h = f.before in
-    let l = least h.before in
+    let l = least h.before.before in
     let s = l.before in
     let a = f.first_assignment-f.ensures in
     tried_start s.requires.0 s.requires.1 s.requires.2 l.lowest_place-p.ensures (found_leads s.requires.0 s.requires.2 (far h) a (long h) (not-false _ e.if-not-f.false)) (far h) a
-    c.before.from_on-2.result m.first_member-head.ensures c.before.from_on-2.ensures c.up_to.ensures
+    c.from_on-2.result m.first_member-head.ensures c.from_on-2.ensures c.up_to.ensures
 
 pub start_spec : {M : Type 1} → statement M
 start_spec =

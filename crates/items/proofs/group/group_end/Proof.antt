@@ -45,7 +45,7 @@ item_read c =
     let again : List ℕ → ℕ → Type 0 = λ after r. MemberRead (family_of a.sort) (lower_of a.sort) (upper_of a.sort) a.t.now turn.loop-more.p turn.loop-more.count turn.loop-more.places r after in
     ⊎_elim
     (λ w. subst₂ again (sym w.places-is) (sym w.p-is) (member_read a.sort whole a.t.now turn.loop-more.p turn.loop-more.count turn.loop-more.places _ _ w.if-sort-eq-WHOLE.true w.integer_member_end-p.ensures))
-    (λ w. subst₂ again (sym w.places-is) (sym w.p-is) (member_read a.sort a.sort a.t.now turn.loop-more.p turn.loop-more.count turn.loop-more.places _ _ refl w.2.ensures))
+    (λ w. subst₂ again (sym w.places-is) (sym w.p-is) (member_read a.sort a.sort a.t.now turn.loop-more.p turn.loop-more.count turn.loop-more.places _ _ refl w.other_member_end-p.ensures))
     c.if-sort-eq-WHOLE.branch-raw
 
 kind_at_requires : tie.Need-kind_at-requires invariant_loop decreases_loop
@@ -100,13 +100,13 @@ loop_again c =
     ⊎_elim
     (λ w.
     go_step (family_of a.sort) (lower_of a.sort) (upper_of a.sort) a.t.now a.stars turn.loop-more.invariant _ _ _ _ c.before.before.before.loop-more-test.true
-    (step_star (sym (ap (λ (k : ℕ). a.stars && eqb k 32) w.1.ensures) ∙ not-false _ w.2.left) (subst starred (sym w.5) w.3.ensures) w.6 w.7 read.stays)
-    read.size (omega (arith, w.4.left, w.5)))
+    (step_star (sym (ap (λ (k : ℕ). a.stars && eqb k 32) w.kind_at.ensures) ∙ not-false _ w.if-not-stars-kind_at.false-raw) (subst starred (sym w.p-is) w.star_end-p.ensures) w.count-is w.star-is read.stays)
+    read.size (omega (arith, w.if-p-gt-FAULT-2.false, w.p-is)))
     (λ w.
-    let under : c.if-p-gt-FAULT.p ≤ 16777215 = omega (arith, w.0.left, w.1) in
-    let placed = subst again (sym w.1) read in
-    go_step (family_of a.sort) (lower_of a.sort) (upper_of a.sort) a.t.now a.stars turn.loop-more.invariant _ _ _ _ c.before.before.before.loop-more-test.true (step_member (member_item (family_of a.sort) (lower_of a.sort) (upper_of a.sort) a.t.now a.stars turn.loop-more.p turn.loop-more.count _ placed.read under) placed.read w.2 w.3) read.size under)
-    c.if-p-gt-FAULT.branch
+    let under : c.if-p-gt-FAULT.p ≤ 16777215 = omega (arith, w.if-p-gt-FAULT.false, w.p-is) in
+    let placed = subst again (sym w.p-is) read in
+    go_step (family_of a.sort) (lower_of a.sort) (upper_of a.sort) a.t.now a.stars turn.loop-more.invariant _ _ _ _ c.before.before.before.loop-more-test.true (step_member (member_item (family_of a.sort) (lower_of a.sort) (upper_of a.sort) a.t.now a.stars turn.loop-more.p turn.loop-more.count _ placed.read under) placed.read w.count-is w.star-is) read.size under)
+    c.if-p-gt-FAULT.branch-raw
 
 group_block_requires : tie.Need-group_block-requires invariant_loop decreases_loop
 group_block_requires c κs =

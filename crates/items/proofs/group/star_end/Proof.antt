@@ -19,7 +19,7 @@ refusal_requires c κs = search rules
 returns : tie.Need-returns-then-code-ne-DONE
 returns c =
     let a = c.before.before.before.before.args in
-    let b = c.before.before.bounds_fault_lem in
+    let b = c.before.before.bounds_fault-code in
     stopped_as b.result (star_fault a.t.now a.at a.seen b.result b.ensures c.before.if-code-ne-DONE.true) (omega (arith, c.before.if-code-ne-DONE.true)) (search rules) (omega (arith, c.refusal.ensures))
 
 refusal_requires_2 : tie.Need-refusal-requires-then-seen
@@ -28,7 +28,7 @@ refusal_requires_2 c κs = search rules
 returns_2 : tie.Need-returns-then-seen
 returns_2 c =
     let a = c.before.before.before.before.before.args in
-    let b = c.before.before.before.bounds_fault_lem in
+    let b = c.before.before.before.bounds_fault-code in
     stopped_as 8 (star_again a.t.now a.at a.seen b.result b.ensures c.before.before.if-code-ne-DONE.false c.before.if-seen.true) (omega arith) (omega arith) (omega (arith, c.refusal-then-seen.ensures))
 
 add_result : tie.Need-overflow_add-result

@@ -51,7 +51,7 @@ number_of_requires c κs = search rules
 
 -- what is left is no 20 and no permutation
 no_other : (c : tie.Joined-kind-ge-STARS) → (c.before.kind_at-kind.result ≡ 0x20 → ⊥) × (c.before.kind_at-kind.result ≡ 0x21 → ⊥)
-no_other c = ⊎_elim (λ w. (w.if-kind-eq-STARS.false, w.if-kind-eq-PERMUTATION.false)) (λ w. (λ e. omega (arith, w.false, e), λ e. omega (arith, w.false, e))) c.if-kind-ge-STARS.branch-raw
+no_other c = ⊎_elim (λ w. (w.if-kind-eq-STARS.false, w.if-kind-eq-PERMUTATION.false)) (λ w. (λ e. omega (arith, w.if-kind-ge-STARS.false, e), λ e. omega (arith, w.if-kind-ge-STARS.false, e))) c.if-kind-ge-STARS.branch-raw
 
 integer_member_end_requires : tie.Need-integer_member_end-requires
 integer_member_end_requires c κs = search rules
