@@ -11,55 +11,55 @@ use Rattle.elements.proofs.count_fault.Reads as count-fault-reads
 use Rattle.heads.proofs.fewest_items.Reads as fewest-items-reads
 use Rattle.heads.proofs.length_clashes.Reads as length-clashes-reads
 
-returns : tie.Need-returns
+returns : tie.Need-returns-then-at-t
 returns c =
     let w = c.before.before in
-    own_none _ _ w.args.t.now w.args.heads.next (omega (arith, c.if1.true))
+    own_none _ _ w.args.t.now w.args.heads.next (omega (arith, c.if-at-t.true))
 
-shared_slice_read_kind : tie.Need-shared-slice-read-kind
+shared_slice_read_kind : tie.Need-bounds-t-at
 shared_slice_read_kind c = search rules
 
-returns_2 : tie.Need-returns-2
+returns_2 : tie.Need-returns-then-kind-lt-RECORD_OF
 returns_2 c =
     let w = c.before.before.before.before in
-    own_low _ _ w.args.t.now w.args.heads.next (omega (arith, c.before.before.if1.false, w.requires)) c.if2.true
+    own_low _ _ w.args.t.now w.args.heads.next (omega (arith, c.if-at-t.false, w.requires)) c.if-kind-lt-RECORD_OF.true
 
-returns_3 : tie.Need-returns-3
+returns_3 : tie.Need-returns-then-kind-gt-SUBSET
 returns_3 c =
     let w = c.before.before.before.before.before in
-    own_high _ _ w.args.t.now w.args.heads.next (omega (arith, c.before.before.before.if1.false, w.requires)) c.before.if2.false c.if3.true
+    own_high _ _ w.args.t.now w.args.heads.next (omega (arith, c.if-at-t.false, w.requires)) c.if-kind-lt-RECORD_OF.false c.if-kind-gt-SUBSET.true
 
-fewest_items_requires : tie.Need-fewest-items-requires
+fewest_items_requires : tie.Need-fewest_items-requires
 fewest_items_requires c κs = search rules
 
-count_fault_requires : tie.Need-count-fault-requires
+count_fault_requires : tie.Need-count_fault-code-requires
 count_fault_requires c κs = search rules
 
-returns_4 : tie.Need-returns-4
+returns_4 : tie.Need-returns-then-code-ne-DONE
 returns_4 c =
     let w = c.before.before.before.before.before.before.before.before in
-    own_count _ _ w.args.t.now w.args.heads.next (omega (arith, c.before.before.before.before.before.before.if1.false, w.requires)) c.before.before.before.before.if2.false c.before.before.before.if3.false _ (few_counted w.args.t.now w.args.heads.next _ _ c.before.count-fault.ensures c.before.before.fewest-items.ensures) c.if4.true
+    own_count _ _ w.args.t.now w.args.heads.next (omega (arith, c.if-at-t.false, w.requires)) c.if-kind-lt-RECORD_OF.false c.if-kind-gt-SUBSET.false _ (few_counted w.args.t.now w.args.heads.next _ _ c.count_fault-code.ensures c.fewest_items.ensures) c.if-code-ne-DONE.true
 
-add_length_clashes : tie.Need-overflow-add-length-clashes
+add_length_clashes : tie.Need-overflow_add-at
 add_length_clashes c = search rules
 
-shared_slice_read_length_clashes : tie.Need-shared-slice-read-length-clashes
+shared_slice_read_length_clashes : tie.Need-bounds-t-at-2
 shared_slice_read_length_clashes c =
     let w = c.before.before.before.before.before.before.before.before.before in
-    omega (arith, (body_counts w.args.t.now w.args.heads.next _ _ c.before.before.count-fault.ensures c.before.if4.false).fits)
+    omega (arith, (body_counts w.args.t.now w.args.heads.next _ _ c.count_fault-code.ensures c.if-code-ne-DONE.false).fits)
 
-length_clashes_requires : tie.Need-length-clashes-requires
+length_clashes_requires : tie.Need-length_clashes-requires
 length_clashes_requires c κs = search rules
 
-returns_5 : tie.Need-returns-5
+returns_5 : tie.Need-returns-then-length_clashes
 returns_5 c =
     let w = c.before.before.before.before.before.before.before.before.before.before.before in
-    own_clash _ _ w.args.t.now w.args.heads.next (omega (arith, c.before.before.before.before.before.before.before.before.before.if1.false, w.requires)) c.before.before.before.before.before.before.before.if2.false c.before.before.before.before.before.before.if3.false _ (few_counted w.args.t.now w.args.heads.next _ _ c.before.before.before.before.count-fault.ensures c.before.before.before.before.before.fewest-items.ensures) c.before.before.before.if4.false _ (sym c.before.length-clashes.ensures ∙ c.if5.true)
+    own_clash _ _ w.args.t.now w.args.heads.next (omega (arith, c.if-at-t.false, w.requires)) c.if-kind-lt-RECORD_OF.false c.if-kind-gt-SUBSET.false _ (few_counted w.args.t.now w.args.heads.next _ _ c.count_fault-code.ensures c.fewest_items.ensures) c.if-code-ne-DONE.false _ (sym c.length_clashes.ensures ∙ c.if-length_clashes.true)
 
-returns_6 : tie.Need-returns-6
+returns_6 : tie.Need-returns
 returns_6 c =
     let w = c.before.before.before.before.before.before.before.before.before.before.before in
-    own_clash _ _ w.args.t.now w.args.heads.next (omega (arith, c.before.before.before.before.before.before.before.before.before.if1.false, w.requires)) c.before.before.before.before.before.before.before.if2.false c.before.before.before.before.before.before.if3.false _ (few_counted w.args.t.now w.args.heads.next _ _ c.before.before.before.before.count-fault.ensures c.before.before.before.before.before.fewest-items.ensures) c.before.before.before.if4.false _ (sym c.before.length-clashes.ensures ∙ c.if5.false)
+    own_clash _ _ w.args.t.now w.args.heads.next (omega (arith, c.if-at-t.false, w.requires)) c.if-kind-lt-RECORD_OF.false c.if-kind-gt-SUBSET.false _ (few_counted w.args.t.now w.args.heads.next _ _ c.count_fault-code.ensures c.fewest_items.ensures) c.if-code-ne-DONE.false _ (sym c.length_clashes.ensures ∙ c.if-length_clashes.false)
 
 pub body_fault_spec : {M : Type 1} → statement M
 body_fault_spec =

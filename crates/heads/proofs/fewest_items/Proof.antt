@@ -5,11 +5,11 @@ use Rattle.heads.proofs.fewest_items.Tie as tie
 use Rattle.heads.proofs.fewest_items.Reads as reads
 use Rattle.heads.proofs.fewest_items.Lts as lts
 
-returns : tie.Need-returns
-returns c = rw (lt-ltb c.before.args.kind 18 c.if1.true)
+returns : tie.Need-returns-then-kind-lt-SUPERSET
+returns c = rw (lt-ltb c.args.kind 18 c.if-kind-lt-SUPERSET.true)
 
-returns_2 : tie.Need-returns-2
-returns_2 c = rw (le-ltb c.before.args.kind 18 c.if1.false)
+returns_2 : tie.Need-returns-else-kind-lt-SUPERSET
+returns_2 c = rw (le-ltb c.args.kind 18 c.if-kind-lt-SUPERSET.false)
 
 pub fewest_items_spec : {M : Type 1} → statement M
 fewest_items_spec = tie.close (tie.spec returns returns_2)

@@ -9,19 +9,19 @@ use Rattle.heads.proofs.no_heads.Reads as no-heads-reads
 use Rattle.heads.proofs.some_heads.Reads as some-heads-reads
 use Rattle.items.proofs.record.kind_at.Reads as kind-at-reads
 
-kind_at_requires : tie.Need-kind-at-requires
+kind_at_requires : tie.Need-kind_at-requires
 kind_at_requires c κs = search rules
 
-no_heads_requires : tie.Need-no-heads-requires
+no_heads_requires : tie.Need-no_heads-requires
 no_heads_requires c κs = search rules
 
-returns : tie.Need-returns
-returns c = let told = c.before.before in let a = told.before.before.args in heads_none a.family a.t.now _ _ told.kind_at.ensures c.before.if1.true c.no-heads.ensures
+returns : tie.Need-returns-then-kind_at-lt-LENGTH
+returns c = let told = c.before.before in let a = told.args in heads_none a.family a.t.now _ _ told.kind_at.ensures c.if-kind_at-lt-LENGTH.true c.no_heads.ensures
 
-some_heads_requires : tie.Need-some-heads-requires
+some_heads_requires : tie.Need-some_heads-requires
 some_heads_requires c κs = search rules
 
-returns_2 : tie.Need-returns-2
+returns_2 : tie.Need-returns
 returns_2 c = search rules
 
 pub heads_of_spec : {M : Type 1} → statement M

@@ -6,11 +6,11 @@ use Rattle.heads.proofs.length_clashes.Tie as tie
 use Rattle.heads.proofs.length_clashes.Reads as reads
 use Rattle.heads.proofs.length_clashes.Lts as lts
 
-returns : tie.Need-returns
-returns c = let h = c.before.before.args.heads in clashes_never _ h.given h.min h.max _ _ (not-true _ c.if1.true)
+returns : tie.Need-returns-then-not-heads
+returns c = let h = c.args.heads in clashes_never _ h.given h.min h.max _ _ (not-true _ c.if-not-heads.true)
 
-returns_2 : tie.Need-returns-2
-returns_2 c = let a = c.before.before.before.args in clashes_is a.heads.plain a.heads.given a.heads.min a.heads.max a.kind a.n (not-false _ c.before.if1.false)
+returns_2 : tie.Need-returns
+returns_2 c = let a = c.args in clashes_is a.heads.plain a.heads.given a.heads.min a.heads.max a.kind a.n (not-false _ c.if-not-heads.false)
 
 pub length_clashes_spec : {M : Type 1} → statement M
 length_clashes_spec = tie.close (tie.spec returns returns_2)

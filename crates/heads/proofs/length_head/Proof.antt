@@ -15,54 +15,54 @@ use Rattle.heads.proofs.refused_heads.Reads as refused-heads-reads
 use Rattle.items.proofs.record.bounds_fault.Reads as bounds-fault-reads
 use Rattle.items.proofs.record.kind_at.Reads as kind-at-reads
 
-kind_at_requires : tie.Need-kind-at-requires
+kind_at_requires : tie.Need-kind_at-requires
 kind_at_requires c κs = search rules
 
-returns : tie.Need-returns
+returns : tie.Need-returns-then-kind_at-ne-LENGTH
 returns c =
     let told = c.before in
     let s = told.before.before in
-    λ fam a said. heads_read a (length_none a s.args.t.now s.args.h.next _ told.kind_at.ensures c.if1.true) s.requires.done s.requires.inside said
+    λ fam a said. heads_read a (length_none a s.args.t.now s.args.h.next _ told.kind_at.ensures c.if-kind_at-ne-LENGTH.true) s.requires.done s.requires.inside said
 
-bounds_fault_requires : tie.Need-bounds-fault-requires
+bounds_fault_requires : tie.Need-bounds_fault-code-requires
 bounds_fault_requires c κs = search rules
 
-refused_heads_requires : tie.Need-refused-heads-requires
+refused_heads_requires : tie.Need-refused_heads-requires
 refused_heads_requires c κs = search rules
 
-returns_2 : tie.Need-returns-2
+returns_2 : tie.Need-returns-then-code-ne-DONE
 returns_2 c =
     let bounds = c.before.before in
     let told = bounds.before.before in
     let s = told.before.before in
-    λ fam a said. heads_fault _ (length_fault a s.args.t.now s.args.h.next _ told.kind_at.ensures bounds.before.if1.false _ bounds.bounds_fault.ensures c.before.if2.true) (omega (arith, c.before.if2.true)) c.refused-heads.ensures
+    λ fam a said. heads_fault _ (length_fault a s.args.t.now s.args.h.next _ told.kind_at.ensures bounds.if-kind_at-ne-LENGTH.false _ bounds.bounds_fault-code.ensures c.if-code-ne-DONE.true) (omega (arith, c.if-code-ne-DONE.true)) c.refused_heads.ensures
 
-add_t8 : tie.Need-overflow-add-t8
+add_t8 : tie.Need-overflow_add-result
 add_t8 c = search rules
 
-add_t9 : tie.Need-overflow-add-t9
+add_t9 : tie.Need-overflow_add-result-2
 add_t9 c = search rules
 
 -- the attribute is all there
-fits : (c : tie.Else2) → let s = c.before.before.before.before.before in s.args.h.next + 3 ≤ length s.args.t.now
-fits c = let s = c.before.before.before.before.before in bounds_inv s.args.t.now s.args.h.next (sym c.before.bounds_fault.ensures ∙ c.if2.false)
+fits : (c : tie.Else-code-ne-DONE) → let s = c.before.before.before.before.before in s.args.h.next + 3 ≤ length s.args.t.now
+fits c = let s = c.before.before.before.before.before in bounds_inv s.args.t.now s.args.h.next (sym c.bounds_fault-code.ensures ∙ c.if-code-ne-DONE.false)
 
-shared_slice_read_t6 : tie.Need-shared-slice-read-t6
+shared_slice_read_t6 : tie.Need-bounds-t-at
 shared_slice_read_t6 c = omega (arith, fits c.before.before)
 
-add_t11 : tie.Need-overflow-add-t11
+add_t11 : tie.Need-overflow_add-result-3
 add_t11 c = search rules
 
-shared_slice_read_t13 : tie.Need-shared-slice-read-t13
+shared_slice_read_t13 : tie.Need-bounds-t-at-2
 shared_slice_read_t13 c = omega (arith, fits c.before.before.before)
 
-returns_3 : tie.Need-returns-3
+returns_3 : tie.Need-returns
 returns_3 c =
     let zero = c.before.before.before in
     let bounds = zero.before in
     let told = bounds.before.before in
     let s = told.before.before in
-    λ fam a said. heads_read _ (length_read a s.args.t.now s.args.h.next _ told.kind_at.ensures bounds.before.if1.false _ bounds.bounds_fault.ensures zero.if2.false) refl (fits zero)
+    λ fam a said. heads_read _ (length_read a s.args.t.now s.args.h.next _ told.kind_at.ensures bounds.if-kind_at-ne-LENGTH.false _ bounds.bounds_fault-code.ensures zero.if-code-ne-DONE.false) refl (fits zero)
     (record { sheet = said.sheet; attribute = refl; bounds = record { lower = refl; upper = refl }; order = said.order; sort = said.sort })
 
 pub length_head_spec : {M : Type 1} → statement M

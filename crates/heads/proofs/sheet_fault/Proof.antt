@@ -6,20 +6,20 @@ use Rattle.heads.proofs.sheet_fault.Tie as tie
 use Rattle.heads.proofs.sheet_fault.Reads as reads
 use Rattle.heads.proofs.sheet_fault.Lts as lts
 
-returns : tie.Need-returns
-returns c = sheet_short c.before.args.t.now c.if1.true
+returns : tie.Need-returns-then-t-lt-SHEET_SIZE
+returns c = sheet_short c.args.t.now c.if-t-lt-SHEET_SIZE.true
 
-shared_slice_read_if2 : tie.Need-shared-slice-read-if2
+shared_slice_read_if2 : tie.Need-bounds-t-1
 shared_slice_read_if2 c = search rules
 
-shared_slice_read_if2_2 : tie.Need-shared-slice-read-if2-2
+shared_slice_read_if2_2 : tie.Need-bounds-t-1-2
 shared_slice_read_if2_2 c = search rules
 
-returns_2 : tie.Need-returns-2
-returns_2 c = let read = c.before.before.before in sheet_tested read.before.args.t.now read.if1.false _ c.if2.true
+returns_2 : tie.Need-returns-then-t
+returns_2 c = let read = c.before.before.before in sheet_tested read.args.t.now read.if-t-lt-SHEET_SIZE.false _ c.if-t.true
 
-returns_3 : tie.Need-returns-3
-returns_3 c = let read = c.before.before.before in sheet_tested read.before.args.t.now read.if1.false _ c.if2.false
+returns_3 : tie.Need-returns
+returns_3 c = let read = c.before.before.before in sheet_tested read.args.t.now read.if-t-lt-SHEET_SIZE.false _ c.if-t.false
 
 pub sheet_fault_spec : {M : Type 1} → statement M
 sheet_fault_spec =

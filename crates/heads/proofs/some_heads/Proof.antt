@@ -9,19 +9,19 @@ use Rattle.heads.proofs.some_heads.Lts as lts
 use Rattle.heads.proofs.rest_heads.Reads as rest-heads-reads
 use Rattle.heads.proofs.sheet_head.Reads as sheet-head-reads
 
-sheet_head_requires : tie.Need-sheet-head-requires
+sheet_head_requires : tie.Need-sheet_head-h-requires
 sheet_head_requires c κs = search rules
 
-returns : tie.Need-returns
+returns : tie.Need-returns-then-h-ne-DONE
 unfolding heads_here
-returns c = heads_stop _ c.before.before.sheet-head.ensures c.if1.true
+returns c = heads_stop _ c.sheet_head-h.ensures c.if-h-ne-DONE.true
 
-rest_heads_requires : tie.Need-rest-heads-requires
-rest_heads_requires c κs = begun c.before.before.sheet-head.ensures c.if1.false c.before.before.before.before.requires
+rest_heads_requires : tie.Need-rest_heads-requires
+rest_heads_requires c κs = begun c.sheet_head-h.ensures c.if-h-ne-DONE.false c.requires
 
-returns_2 : tie.Need-returns-2
+returns_2 : tie.Need-returns
 unfolding heads_here
-returns_2 c = heads_go _ c.before.before.before.sheet-head.ensures c.before.if1.false c.rest-heads.ensures
+returns_2 c = heads_go _ c.sheet_head-h.ensures c.if-h-ne-DONE.false c.rest_heads.ensures
 
 pub some_heads_spec : {M : Type 1} → statement M
 some_heads_spec = tie.close (tie.spec sheet_head_requires returns rest_heads_requires returns_2)

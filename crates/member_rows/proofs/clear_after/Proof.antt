@@ -5,32 +5,32 @@ use Rattle.member_rows.proofs.RowByRow.{Clearing, clearing_start, clearing_step,
 use Rattle.member_rows.proofs.clear_after.Statement.{statement}
 use Rattle.member_rows.proofs.clear_after.Tie as tie
 
-abbrev invariant_loop : tie.invariant-loop
+abbrev invariant_loop : tie.invariant-loop-e
 invariant_loop rows₀ n e₀ rows e = Clearing n e rows₀ rows × (n ≤ e) × (e ≤ 32)
 
-abbrev decreases_loop : tie.decreases-loop
+abbrev decreases_loop : tie.decreases-loop-e
 decreases_loop rows₀ n e₀ rows e = 32 - e
 
-loop_holds : tie.Need-loop-init invariant_loop decreases_loop
+loop_holds : tie.Need-loop-e-init invariant_loop decreases_loop
 loop_holds c = (clearing_start _ _ c.requires.0, omega arith, c.requires.1)
 
-mul_rows : tie.Need-overflow-mul-rows invariant_loop decreases_loop
-mul_rows c = omega (arith, c.loop-test.true)
+mul_rows : tie.Need-offset_bounds-rows-e invariant_loop decreases_loop
+mul_rows c = omega (arith, c.loop-e-test.true)
 
-element_write_rows : tie.Need-element-write-rows invariant_loop decreases_loop
-element_write_rows c = omega (arith, c.loop-test.true)
+element_write_rows : tie.Need-bounds-rows-e invariant_loop decreases_loop
+element_write_rows c = omega (arith, c.loop-e-test.true)
 
-add_e : tie.Need-overflow-add-e invariant_loop decreases_loop
-add_e c = omega (arith, c.loop-test.true)
+add_e : tie.Need-overflow_add-e invariant_loop decreases_loop
+add_e c = omega (arith, c.loop-e-test.true)
 
-loop_less : tie.Need-loop-smaller invariant_loop decreases_loop
-loop_less c = omega (arith, c.loop-test.true)
+loop_less : tie.Need-loop-e-smaller invariant_loop decreases_loop
+loop_less c = omega (arith, c.loop-e-test.true)
 
-loop_again : tie.Need-loop-preserved invariant_loop decreases_loop
-loop_again c = (clearing_step _ _ _ _ c.before.loop.invariant.0 c.before.loop.invariant.1 c.loop-test.true, omega (arith, c.before.loop.invariant.1), omega (arith, c.loop-test.true))
+loop_again : tie.Need-loop-e-preserved invariant_loop decreases_loop
+loop_again c = (clearing_step _ _ _ _ c.loop-e.invariant.0 c.loop-e.invariant.1 c.loop-e-test.true, omega (arith, c.loop-e.invariant.1), omega (arith, c.loop-e-test.true))
 
 returns : tie.Need-returns invariant_loop decreases_loop
-returns c = clearing_end _ _ _ _ c.before.loop.invariant.0 (omega (arith, c.loop-test.false))
+returns c = clearing_end _ _ _ _ c.loop-e.invariant.0 (omega (arith, c.loop-e-test.false))
 
 pub clear_after_spec : {M : Type 1} → statement M
 clear_after_spec = tie.close (tie.spec invariant_loop decreases_loop loop_holds mul_rows element_write_rows add_e loop_less loop_again returns)

@@ -9,37 +9,37 @@ use Rattle.member_rows.proofs.RowByRow.{MarkedTo, marked_none, marked_more, mark
 use Rattle.member_rows.proofs.mark_members.Statement.{statement}
 use Rattle.member_rows.proofs.mark_members.Tie as tie
 
-abbrev invariant_loop : tie.invariant-loop
+abbrev invariant_loop : tie.invariant-loop-m
 invariant_loop rows₀ t places first end integers floats wide m₀ rows m =
     ((fam : Family) (fit : length (take end places) ≡ end) → Lent fam integers floats → MarkedTo fam t places end fit rows₀ first (list_of fam integers floats) m rows) × (first ≤ m) × (m ≤ end) × (length rows ≡ 32)
 
-abbrev decreases_loop : tie.decreases-loop
+abbrev decreases_loop : tie.decreases-loop-m
 decreases_loop rows₀ t places first end integers floats wide m₀ rows m = end - m
 
-loop_holds : tie.Need-loop-init invariant_loop decreases_loop
-loop_holds c = let p = c.before.before.requires in (λ fam fit lent. marked_none _ _ _ _ fit _ _ _ p.0, omega arith, p.2, p.0)
+loop_holds : tie.Need-loop-m-init invariant_loop decreases_loop
+loop_holds c = let p = c.requires in (λ fam fit lent. marked_none _ _ _ _ fit _ _ _ p.0, omega arith, p.2, p.0)
 
-mul_at : tie.Need-overflow-mul-at invariant_loop decreases_loop
-mul_at c = omega (arith, c.loop-test.true, c.before.before.before.before.requires.1.placed.few)
+mul_at : tie.Need-offset_bounds-places-m invariant_loop decreases_loop
+mul_at c = omega (arith, c.loop-m-test.true, c.requires.1.placed.few)
 
-element_copy_out_at : tie.Need-element-copy-out-at invariant_loop decreases_loop
-element_copy_out_at c = omega (arith, c.loop-test.true, c.before.before.before.before.requires.1.placed.few)
+element_copy_out_at : tie.Need-bounds-places-m invariant_loop decreases_loop
+element_copy_out_at c = omega (arith, c.loop-m-test.true, c.requires.1.placed.few)
 
-cast_at : tie.Need-overflow-cast-at invariant_loop decreases_loop
+cast_at : tie.Need-overflow_cast-at invariant_loop decreases_loop
 cast_at c =
-    let served = c.before.before.before.before.before.requires.1 in
-    omega (arith, (element_there _ _ _ _ served.placed c.before.before.loop.m c.before.loop-test.true).inside, served.placed.short)
+    let served = c.requires.1 in
+    omega (arith, (element_there _ _ _ _ served.placed c.loop-m.m c.loop-m-test.true).inside, served.placed.short)
 
-cast_mark : tie.Need-overflow-cast-mark invariant_loop decreases_loop
-cast_mark c = omega (arith, c.before.before.loop-test.true, c.before.before.before.before.before.before.requires.1.placed.few)
+cast_mark : tie.Need-overflow_cast-m invariant_loop decreases_loop
+cast_mark c = omega (arith, c.loop-m-test.true, c.requires.1.placed.few)
 
 mark_requires : tie.Need-mark-requires invariant_loop decreases_loop
 mark_requires c κs =
-    let turn = c.before.before.before in
-    let p = turn.before.before.before.requires in
+    let turn = c.before.before.before.before in
+    let p = turn.requires in
     let served = p.1 in
-    let going = c.before.before.loop-test.true in (
-      turn.loop.invariant.3,
+    let going = c.loop-m-test.true in (
+      turn.loop-m.invariant.3,
       omega (arith, going, served.placed.few),
       record {
         family = served.family;
@@ -51,18 +51,18 @@ mark_requires c κs =
       },
     )
 
-add_m : tie.Need-overflow-add-m invariant_loop decreases_loop
-add_m c = omega (arith, c.before.before.before.loop-test.true, c.before.before.before.before.before.before.before.requires.1.placed.few)
+add_m : tie.Need-overflow_add-m invariant_loop decreases_loop
+add_m c = omega (arith, c.loop-m-test.true, c.requires.1.placed.few)
 
-loop_less : tie.Need-loop-smaller invariant_loop decreases_loop
-loop_less c = omega (arith, c.before.before.before.loop-test.true)
+loop_less : tie.Need-loop-m-smaller invariant_loop decreases_loop
+loop_less c = omega (arith, c.loop-m-test.true)
 
-loop_again : tie.Need-loop-preserved invariant_loop decreases_loop
+loop_again : tie.Need-loop-m-preserved invariant_loop decreases_loop
 loop_again c =
-    let turn = c.before.before.before.before in
-    let inv = turn.loop.invariant in
-    let served = turn.before.before.before.requires.1 in
-    let going = c.before.before.before.loop-test.true in (
+    let turn = c.before.before.before.before.before in
+    let inv = turn.loop-m.invariant in
+    let served = turn.requires.1 in
+    let going = c.loop-m-test.true in (
       λ fam fit lent. marked_more _ _ _ _ fit _ _ _ _ _ (inv.0 fam fit lent) _ inv.1 going (c.mark.ensures fam lent),
       omega (arith, inv.1),
       omega (arith, going),
@@ -71,9 +71,9 @@ loop_again c =
 
 returns : tie.Need-returns invariant_loop decreases_loop
 returns c fam lent =
-    let served = c.before.before.before.before.requires.1 in
+    let served = c.requires.1 in
     let fit = places_fit _ _ _ _ served.placed in
-    marked_all _ _ _ _ fit _ _ _ _ _ (c.before.loop.invariant.0 fam fit lent) (omega (arith, c.loop-test.false, c.before.loop.invariant.2))
+    marked_all _ _ _ _ fit _ _ _ _ _ (c.loop-m.invariant.0 fam fit lent) (omega (arith, c.loop-m-test.false, c.loop-m.invariant.2))
 
 pub mark_members_spec : {M : Type 1} → statement M
 mark_members_spec = tie.close (tie.spec invariant_loop decreases_loop loop_holds mul_at element_copy_out_at cast_at cast_mark mark_requires add_m loop_less loop_again returns)

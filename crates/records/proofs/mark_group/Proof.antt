@@ -7,18 +7,18 @@ use borrow.Author.Rules.{rules}
 use Rattle.records.proofs.mark_group.Statement.{statement}
 use Rattle.records.proofs.mark_group.Tie as tie
 
-cast_first : tie.Need-overflow-cast-first
+cast_first : tie.Need-overflow_cast-first
 cast_first c = search rules
 
-cast_mark_members : tie.Need-overflow-cast-mark-members
+cast_mark_members : tie.Need-overflow_cast-b
 cast_mark_members c = search rules
 
-add_mark_members : tie.Need-overflow-add-mark-members
+add_mark_members : tie.Need-overflow_add-first
 add_mark_members c = search rules
 
-mark_members_requires : tie.Need-mark-members-requires
+mark_members_requires : tie.Need-mark_members-requires
 mark_members_requires c κs =
-    let p = c.before.before.before.before.before.requires in
+    let p = c.requires in
     let served = p.0 in (
       p.2,
       record { family = served.family; placed = members_fewer _ _ _ _ _ p.3 served.placed; lent = served.lent; few = served.few },
@@ -28,8 +28,8 @@ mark_members_requires c κs =
 
 returns : tie.Need-returns
 returns c fam lent es s =
-    let p = c.before.before.before.before.before.before.requires in
-    group_joined fam _ _ _ _ p.3 es s _ _ _ _ _ (lent_size fam _ _ lent) refl (c.mark-members.ensures fam lent)
+    let p = c.requires in
+    group_joined fam _ _ _ _ p.3 es s _ _ _ _ _ (lent_size fam _ _ lent) refl (c.mark_members.ensures fam lent)
 
 pub mark_group_spec : {M : Type 1} → statement M
 mark_group_spec =

@@ -4,26 +4,26 @@ use borrow.Author.Rules.{rules}
 use Rattle.records.proofs.runs.in_one.Statement.{statement}
 use Rattle.records.proofs.runs.in_one.Tie as tie
 
-block_of_requires : tie.Need-block-of-requires
+block_of_requires : tie.Need-block_of-a-requires
 block_of_requires c κs = search rules
 
-block_of_requires_2 : tie.Need-block-of-requires-2
+block_of_requires_2 : tie.Need-block_of-b-requires
 block_of_requires_2 c κs = search rules
 
-together_requires : tie.Need-together-requires
+together_requires : tie.Need-together-min-requires
 together_requires c κs = search rules
 
-together_requires_2 : tie.Need-together-requires-2
+together_requires_2 : tie.Need-together-max-requires
 together_requires_2 c κs = search rules
 
-number_of_requires : tie.Need-number-of-requires
+number_of_requires : tie.Need-number_of-requires
 number_of_requires c κs = search rules
 
 returns : tie.Need-returns
 returns c =
     let made = c.before in
     let read = made.before.before in
-    c.number_of.ensures.1 ∙ rw (made.together2.ensures, made.before.together.ensures, read.block-of2.ensures, read.before.Block-of.ensures) refl
+    c.number_of.ensures.1 ∙ rw (made.together-max.ensures, made.together-min.ensures, read.block_of-b.ensures, read.block_of-a.ensures) refl
 
 pub in_one_spec : {M : Type 1} → statement M
 in_one_spec =

@@ -5,15 +5,15 @@ use Rattle.records.specs.Runs.{joinable}
 use Rattle.records.proofs.runs.joins.Statement.{statement}
 use Rattle.records.proofs.runs.joins.Tie as tie
 
-block_of_requires : tie.Need-block-of-requires
+block_of_requires : tie.Need-block_of-a-requires
 block_of_requires c κs = search rules
 
-block_of_requires_2 : tie.Need-block-of-requires-2
+block_of_requires_2 : tie.Need-block_of-b-requires
 block_of_requires_2 c κs = search rules
 
 returns : tie.Need-returns
 unfolding joinable
-returns c = rw (sym c.before.before.before.before.before.Block-of.ensures, sym c.before.before.before.before.block-of2.ensures) refl
+returns c = rw (sym c.block_of-a.ensures, sym c.block_of-b.ensures) refl
 
 pub joins_spec : {M : Type 1} → statement M
 joins_spec = tie.close (tie.spec block_of_requires block_of_requires_2 returns)

@@ -63,7 +63,7 @@ loop_again : tie.Need-loop-preserved invariant_loop decreases_loop
 loop_again c =
     let read = c.before.before.before in
     let turn = read.before.before.before.before in
-    items_more turn.loop.invariant c.before.before.before.before.before.before.loop-test.true turn.before.before.requires.1 read.item-end.ensures.1 c.before.before.if1.false read.item-end.ensures.0 _ (ap (λ (b : Block). turn.loop.m + b.k) c.before.Block-of.ensures)
+    items_more turn.loop.invariant c.before.before.before.before.before.before.loop-test.true turn.before.before.requires.1 read.item-end.ensures.1 c.before.before.if1.false read.item-end.ensures.0 _ (ap (λ (b : Block). turn.loop.m + b.k) c.before.block_of.ensures)
 
 mul_result : tie.Need-overflow-mul-result invariant_loop decreases_loop
 mul_result c = let g = c.before.loop.invariant in omega (arith, g.few)

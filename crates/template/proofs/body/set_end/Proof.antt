@@ -46,10 +46,10 @@ returns_2 c =
     let read = told.before.before in
     let start = read.before.before.before.before in
     let a = start.args in
-    set_noted (family_of a.sort) (lower_of a.sort) (upper_of a.sort) a.kind start.requires.1 start.requires.2 told.Block-of.result.k told.Block-of.result.min told.Block-of.result.max max.max
+    set_noted (family_of a.sort) (lower_of a.sort) (upper_of a.sort) a.kind start.requires.1 start.requires.2 told.block_of.result.k told.block_of.result.min told.block_of.result.max max.max
     (λ k. ⊎_elim (λ v. v.1) (λ v. absurd (v.0.left k)) max.branch)
     (λ k. ⊎_elim (λ v. absurd (k v.0.taken)) (λ v. v.1) max.branch)
-    a.t.now a.at a.n _ _ _ _ _ (ap (λ (b : Block). b.k) told.Block-of.ensures) (ap (λ (b : Block). b.min) told.Block-of.ensures) (ap (λ (b : Block). b.max) told.Block-of.ensures) c.before.number_of.ensures start.requires.4 _ _ start.requires.0.1 told.before.if1.false refl read.group-end.ensures.0
+    a.t.now a.at a.n _ _ _ _ _ (ap (λ (b : Block). b.k) told.block_of.ensures) (ap (λ (b : Block). b.min) told.block_of.ensures) (ap (λ (b : Block). b.max) told.block_of.ensures) c.before.number_of.ensures start.requires.4 _ _ start.requires.0.1 told.before.if1.false refl read.group-end.ensures.0
 
 pub set_end_spec : {M : Type 1} → statement M
 set_end_spec =
