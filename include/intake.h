@@ -1,5 +1,5 @@
 /*
- * intake.h: the entry points of Intake for C11 and C++, in the static library that `rt staticlib exports` writes (x86-64 Linux).
+ * intake.h: the entry points of Intake for C11 and C++, in the static library that `tools/archive` writes (x86-64 Linux).
  *
  * Each function gives back one of the numbers below, for every input: there is no other way to fail. No parameter of these functions changes
  * later: what is new comes as a new function.

@@ -1,4 +1,4 @@
-//! Finds the static library: in the folder that `INTAKE_LIB_DIR` names, else where `rt staticlib exports` writes it in this repository.
+//! Finds the static library: in the folder that `INTAKE_LIB_DIR` names, else where `tools/archive` writes it in this repository.
 use std::env;
 use std::path::{Path, PathBuf};
 
@@ -8,7 +8,7 @@ fn main() {
     let archive = folder.join("libexports.a");
     // To look at the sources needs no archive, so a missing one is an error only where something is linked.
     if !archive.exists() {
-        let fix = "run `rt staticlib exports`, or set INTAKE_LIB_DIR to the folder that has it";
+        let fix = "run `tools/archive`, or set INTAKE_LIB_DIR to the folder that has it";
         println!("cargo:warning={} is not there: {}", archive.display(), fix);
     }
     println!("cargo:rerun-if-env-changed=INTAKE_LIB_DIR");

@@ -18,7 +18,7 @@
 //! assert_eq!(judge(&rule, list.offer(&[0, 1]).unwrap()), Verdict::DoesNotObey);
 //! ```
 //!
-//! The static library is for x86-64 Linux: `rt staticlib exports` writes it to `target/staticlib`, and `INTAKE_LIB_DIR` names another folder.
+//! The static library is for x86-64 Linux: `tools/archive` writes it to `target/staticlib`, and `INTAKE_LIB_DIR` names another folder.
 #![deny(unsafe_code)]
 #![warn(missing_docs)]
 

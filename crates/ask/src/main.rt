@@ -100,6 +100,7 @@ fn answer_of(
 
 // Prints the line, and says whether another request may follow.
 fn answer(
+    rt: &HostRuntime,
     request: Request,
     template: &[u8],
     second: &[u8],
@@ -108,17 +109,18 @@ fn answer(
     room: &mut [u8],
 ) -> bool {
     let given = answer_of(request, template, second, integers, floats, room);
-    print_answer(request.kind, given, room)
+    print_answer(rt, request.kind, given, room)
 }
 
 // Both lists have as many elements as were read; only that of the family is looked at.
-fn take_request() -> bool {
+fn take_request(rt: &HostRuntime) -> bool {
     let mut template = [0u8; 5000];
     let mut second = [0u8; 5000];
     let mut integers = [0i32; 64];
     let mut floats = [0.0f64; 64];
     let mut room = [UNTOUCHED; 1024];
     let request = read_request(
+        rt,
         &mut template,
         &mut second,
         &mut integers,
@@ -130,6 +132,7 @@ fn take_request() -> bool {
     let n = request.list;
     let r = request.room;
     answer(
+        rt,
         request,
         &template[..t],
         &second[..s],
@@ -140,11 +143,11 @@ fn take_request() -> bool {
 }
 
 // Nothing says that the input ends, so the turns are counted down from a number that no run uses up.
-fn main() {
+fn main(rt: HostRuntime) {
     let mut turns = u64::MAX;
     let mut goes_on = true;
     while turns > 0 && goes_on {
-        goes_on = take_request();
+        goes_on = take_request(&rt);
         turns -= 1;
     }
 }

@@ -6,7 +6,7 @@ ghost use Rattle.std.specs.Prelude.{◌≤◌};
 
 use floats::float_at;
 use integers::int_at;
-use libc::{STDIN_FILENO, STDOUT_FILENO};
+use std::io::{Read, Write};
 
 // The first byte of a request says its kind.
 pub const MATCH: usize = 1;
@@ -40,7 +40,7 @@ const ASKED_ROOM_MOST: usize = 1024;
 
 // What stands at the front of the arrays that are lent: template bytes, or the first form of a meeting and the bytes of the second, integers or
 // floats as the family says, and the bytes of the room or the witness. `lower` and `upper` are the bounds of the type of a normal form or a meeting.
-#[derive(Drop)]
+#[derive(Clone, Copy)]
 pub struct Request {
     pub kind: usize,
     pub family: usize,
@@ -74,45 +74,47 @@ fn wide(byte: u8) -> usize
     byte as usize
 }
 
+// Reads until the part is full, and says whether it is: not where the input ends before, or a read fails.
+fn read_full(rt: &HostRuntime, part: &mut [u8]) -> bool {
+    rt.stdin().read_exact(part).is_ok()
+}
+
 // The next byte.
-fn next_byte() -> usize
+fn next_byte(rt: &HostRuntime) -> usize
     ensures { result ≤ 65536 }
 {
     let mut one = [0u8; 1];
-    let got = io::read_full(STDIN_FILENO, &mut one);
-    if got == 0 {
+    if !read_full(rt, &mut one) {
         return ABSENT;
     }
     wide(one[0])
 }
 
 // The next count, of two bytes.
-fn next_count() -> usize {
+fn next_count(rt: &HostRuntime) -> usize {
     let mut two = [0u8; 2];
-    let got = io::read_full(STDIN_FILENO, &mut two);
-    if got < 2 {
+    if !read_full(rt, &mut two) {
         return ABSENT;
     }
     wide(two[0]) + 256 * wide(two[1])
 }
 
 // Reads `n` bytes to the front of `part`, and says whether there was room and input for them.
-fn read_bytes(part: &mut [u8], n: usize) -> bool {
+fn read_bytes(rt: &HostRuntime, part: &mut [u8], n: usize) -> bool {
     if part.len() < n {
         return false;
     }
-    let got = io::read_full(STDIN_FILENO, &mut part[..n]);
-    n <= got
+    read_full(rt, &mut part[..n])
 }
 
 // Reads a count and as many bytes to the front of `part`, and gives back the count.
-fn read_part(part: &mut [u8]) -> usize {
-    let n = next_count();
-    if read_bytes(part, n) { n } else { ABSENT }
+fn read_part(rt: &HostRuntime, part: &mut [u8]) -> usize {
+    let n = next_count(rt);
+    if read_bytes(rt, part, n) { n } else { ABSENT }
 }
 
 // Reads `n` integers to the front of `list`, and says whether there was room and input for them.
-fn read_integers(list: &mut [i32], n: usize) -> bool {
+fn read_integers(rt: &HostRuntime, list: &mut [i32], n: usize) -> bool {
     if list.len() < n {
         return false;
     }
@@ -120,7 +122,7 @@ fn read_integers(list: &mut [i32], n: usize) -> bool {
         return false;
     }
     let mut bytes = [0u8; 256];
-    if !read_bytes(&mut bytes, 4 * n) {
+    if !read_bytes(rt, &mut bytes, 4 * n) {
         return false;
     }
     let mut i: usize = 0;
@@ -132,7 +134,7 @@ fn read_integers(list: &mut [i32], n: usize) -> bool {
 }
 
 // Reads `n` floats to the front of `list`, and says whether there was room and input for them.
-fn read_floats(list: &mut [f64], n: usize) -> bool {
+fn read_floats(rt: &HostRuntime, list: &mut [f64], n: usize) -> bool {
     if list.len() < n {
         return false;
     }
@@ -140,7 +142,7 @@ fn read_floats(list: &mut [f64], n: usize) -> bool {
         return false;
     }
     let mut bytes = [0u8; 512];
-    if !read_bytes(&mut bytes, 8 * n) {
+    if !read_bytes(rt, &mut bytes, 8 * n) {
         return false;
     }
     let mut i: usize = 0;
@@ -152,11 +154,17 @@ fn read_floats(list: &mut [f64], n: usize) -> bool {
 }
 
 // Reads `n` elements of the family, and says whether there was room and input for them.
-fn read_elements(family: usize, integers: &mut [i32], floats: &mut [f64], n: usize) -> bool {
+fn read_elements(
+    rt: &HostRuntime,
+    family: usize,
+    integers: &mut [i32],
+    floats: &mut [f64],
+    n: usize,
+) -> bool {
     if family == FLOATS {
-        return read_floats(floats, n);
+        return read_floats(rt, floats, n);
     }
-    read_integers(integers, n)
+    read_integers(rt, integers, n)
 }
 
 // Whether a request of this kind is of a type and not of a list.
@@ -165,12 +173,18 @@ fn is_of_type(kind: usize) -> bool {
 }
 
 // Reads a count and as many elements, and gives back the count. What is of a type has no list.
-fn read_list(kind: usize, family: usize, integers: &mut [i32], floats: &mut [f64]) -> usize {
+fn read_list(
+    rt: &HostRuntime,
+    kind: usize,
+    family: usize,
+    integers: &mut [i32],
+    floats: &mut [f64],
+) -> usize {
     if is_of_type(kind) {
         return 0;
     }
-    let n = next_count();
-    if read_elements(family, integers, floats, n) {
+    let n = next_count(rt);
+    if read_elements(rt, family, integers, floats, n) {
         n
     } else {
         ABSENT
@@ -178,26 +192,26 @@ fn read_list(kind: usize, family: usize, integers: &mut [i32], floats: &mut [f64
 }
 
 // Reads the family. What is of a type is of integers only.
-fn read_family(kind: usize) -> usize {
+fn read_family(rt: &HostRuntime, kind: usize) -> usize {
     if is_of_type(kind) {
         return INTEGERS;
     }
-    next_byte()
+    next_byte(rt)
 }
 
 // Reads a count and as many bytes of the second form. Only a meeting has one.
-fn read_second(kind: usize, second: &mut [u8]) -> usize {
+fn read_second(rt: &HostRuntime, kind: usize, second: &mut [u8]) -> usize {
     if kind == MEETING {
-        return read_part(second);
+        return read_part(rt, second);
     }
     0
 }
 
 // Reads the bounds of the type, where there is one.
-fn read_bounds(kind: usize) -> Bounds {
+fn read_bounds(rt: &HostRuntime, kind: usize) -> Bounds {
     let mut both = [0i32; 2];
     let n = if is_of_type(kind) { 2 } else { 0 };
-    let read = read_integers(&mut both, n);
+    let read = read_integers(rt, &mut both, n);
     Bounds {
         read,
         lower: both[0],
@@ -206,14 +220,14 @@ fn read_bounds(kind: usize) -> Bounds {
 }
 
 // Reads the last count, and the witness of a judgement.
-fn read_room(kind: usize, room: &mut [u8]) -> usize {
+fn read_room(rt: &HostRuntime, kind: usize, room: &mut [u8]) -> usize {
     if kind == WHY_NOT {
         return 0;
     }
     if kind == JUDGE {
-        return read_part(room);
+        return read_part(rt, room);
     }
-    next_count()
+    next_count(rt)
 }
 
 fn without_parts(kind: usize) -> Request
@@ -274,6 +288,7 @@ fn within_bounds(
 
 // Reads the next request.
 pub fn read_request(
+    rt: &HostRuntime,
     template: &mut [u8],
     second: &mut [u8],
     integers: &mut [i32],
@@ -282,19 +297,28 @@ pub fn read_request(
 ) -> Request
     ensures { (result.template ≤ 5000) × (result.second ≤ 5000) × (result.list ≤ 64) × (result.room ≤ 1024) }
 {
-    let kind = next_byte();
-    let family = read_family(kind);
-    let t = read_part(template);
-    let s = read_second(kind, second);
-    let bounds = read_bounds(kind);
-    let n = read_list(kind, family, integers, floats);
-    let r = read_room(kind, room);
+    let kind = next_byte(rt);
+    let family = read_family(rt, kind);
+    let t = read_part(rt, template);
+    let s = read_second(rt, kind, second);
+    let bounds = read_bounds(rt, kind);
+    let n = read_list(rt, kind, family, integers, floats);
+    let r = read_room(rt, kind, room);
     within_bounds(kind, family, t, s, bounds, n, r)
 }
 
-fn print(byte: u8) {
+// Writes the bytes to standard output. Where it takes no more, the rest goes unseen.
+fn write(rt: &HostRuntime, bytes: &[u8]) {
+    let _ = rt.stdout().write_all(bytes);
+}
+
+fn print(rt: &HostRuntime, byte: u8) {
     let one = [byte];
-    io::write_all(STDOUT_FILENO, &one);
+    write(rt, &one);
+}
+
+fn print_decimal(rt: &HostRuntime, value: u64) {
+    let _ = print!(rt; "{value}");
 }
 
 // The digit of the low four bits.
@@ -309,9 +333,9 @@ fn hex_digit(byte: u8) -> u8 {
 
 // All of the bytes in hexadecimal, `-` where there is none, and the end of the line. No room has more than 1,024 bytes: the second test
 // only says so to the proof.
-fn print_room(room: &[u8]) {
+fn print_room(rt: &HostRuntime, room: &[u8]) {
     if room.len() == 0 {
-        io::write_all(STDOUT_FILENO, b"-\n");
+        write(rt, b"-\n");
         return;
     }
     if ASKED_ROOM_MOST < room.len() {
@@ -325,39 +349,39 @@ fn print_room(room: &[u8]) {
         line[2 * i + 1] = hex_digit(byte);
         i += 1;
     }
-    io::write_all(STDOUT_FILENO, &line[..2 * i + 1]);
+    write(rt, &line[..2 * i + 1]);
 }
 
 // Eight digits of the mask, `-` where no group is given, and the end of the line.
-fn print_group(group: u32) {
+fn print_group(rt: &HostRuntime, group: u32) {
     if group == 0 {
-        print(b'-');
+        print(rt, b'-');
     } else {
-        io::print_hex(STDOUT_FILENO, group as u64, 8);
+        let _ = print!(rt; "{group:08x}");
     }
-    print(b'\n');
+    print(rt, b'\n');
 }
 
-fn print_bad() {
-    io::write_all(STDOUT_FILENO, b"bad\n");
+fn print_bad(rt: &HostRuntime) {
+    write(rt, b"bad\n");
 }
 
 // What stands behind the number in the line of a good request.
-fn print_rest(kind: usize, answer: Answer, room: &[u8]) {
+fn print_rest(rt: &HostRuntime, kind: usize, answer: Answer, room: &[u8]) {
     if kind == JUDGE {
-        print(b'\n');
+        print(rt, b'\n');
         return;
     }
-    print(b' ');
+    print(rt, b' ');
     if kind == WHY_NOT {
-        print_group(answer.group);
+        print_group(rt, answer.group);
         return;
     }
     if is_of_type(kind) {
-        io::print_decimal(STDOUT_FILENO, answer.length as u64);
-        print(b' ');
+        print_decimal(rt, answer.length as u64);
+        print(rt, b' ');
     }
-    print_room(room);
+    print_room(rt, room);
 }
 
 fn is_good(kind: usize) -> bool {
@@ -365,15 +389,15 @@ fn is_good(kind: usize) -> bool {
 }
 
 // Prints the line of the answer to a request of this kind, none where the input ends, and says whether another request may follow.
-pub fn print_answer(kind: usize, answer: Answer, room: &[u8]) -> bool {
+pub fn print_answer(rt: &HostRuntime, kind: usize, answer: Answer, room: &[u8]) -> bool {
     if kind == ABSENT {
         return false;
     }
     if !is_good(kind) {
-        print_bad();
+        print_bad(rt);
         return false;
     }
-    io::print_decimal(STDOUT_FILENO, answer.number as u64);
-    print_rest(kind, answer, room);
+    print_decimal(rt, answer.number as u64);
+    print_rest(rt, kind, answer, room);
     true
 }

@@ -2,12 +2,13 @@
 // Where it can't read, or can't print, it says so on standard error.
 #![tactic(auto)]
 
-ghost use Rattle.std.specs.Prelude.{◌≡◌, true, ◌+◌, ◌*◌, ◌≤◌, length, pos};
-ghost use Rattle.std.specs.Int.Signed.{lt_z};
-ghost use Rattle.io.specs.Counts.{IsPrefixLen, clamp_len};
+ghost use Rattle.std.specs.Prelude.{◌≡◌, true, ◌+◌, ◌*◌, ◌≤◌, length, min, take};
+ghost use Rattle.std.specs.Option.{unwrap_or};
+ghost use Rattle.std.specs.Result.{is_err, result_ok};
 
-use libc::{STDERR_FILENO, STDIN_FILENO, STDOUT_FILENO};
 use rendering::render;
+use std::io;
+use std::io::{Read, Write};
 
 // One byte more than an input may have, so that a longer one is seen to be longer.
 fn input_buffer() -> [u8; 65537]
@@ -18,6 +19,13 @@ fn input_buffer() -> [u8; 65537]
 
 // The longest input whose output fits into `large_buffer`. Most are shorter, and to clear a longer buffer takes longer than to answer them.
 const SHORT: usize = 13056;
+
+// Room for what `render` asks for, for the inputs that are no longer than `SHORT`.
+fn large_buffer() -> [u8; 65536]
+    ensures { 65536 ≡ length result }
+{
+    [0; 65536]
+}
 
 // What `render` asks for, for the longest input that is read: five bytes for each of its bytes, and 256.
 fn output_buffer() -> [u8; 327941]
@@ -33,31 +41,34 @@ struct Taken {
     failed: bool,
 }
 
-// What an answer of `read` says of the part that it was to fill: a negative one is a failure, 0 the end of the input.
-fn taken_by(got: isize, part: &[u8]) -> Taken
-    ensures { (result.n ≡ clamp_len got (length part.now)) × (result.failed ≡ lt_z got (pos 0)) }
+// What an answer of `read` says of the part that it was to fill: an error is a failure, 0 the end of the input.
+fn taken_by(got: io::Result<usize>, part: &[u8]) -> Taken
+    ensures { (result.n ≡ min (unwrap_or (result_ok got) 0) (length part.now)) × (result.failed ≡ is_err got) }
 {
-    Taken {
-        n: io::count(got, part),
-        failed: got < 0,
+    match got {
+        Ok(n) => Taken {
+            n: n.min(part.len()),
+            failed: false,
+        },
+        Err(_) => Taken { n: 0, failed: true },
     }
 }
 
 // Reads once. No byte is read at the end of the input, and where reading fails.
-fn read_once(part: &mut [u8]) -> Taken
+fn read_once(rt: &HostRuntime, part: &mut [u8]) -> Taken
     ensures { (result.n ≤ length part.new) × (result.failed ≡ true → result.n ≡ 0) }
 {
-    let got = libc::read(STDIN_FILENO, part);
+    let got = rt.stdin().read(part);
     taken_by(got, part)
 }
 
 // Reads until the input ends, reading fails or the buffer is full.
-fn read_input(buf: &mut [u8]) -> Taken
-    ensures { IsPrefixLen result.n buf.new }
+fn read_input(rt: &HostRuntime, buf: &mut [u8]) -> Taken
+    ensures { (result.n ≤ length buf.new) × (result.n ≡ length (take result.n buf.new)) }
 {
     let mut n: usize = 0;
     while n < buf.len() {
-        let more = read_once(&mut buf[n..]);
+        let more = read_once(rt, &mut buf[n..]);
         if more.n == 0 {
             return Taken {
                 n,
@@ -69,29 +80,34 @@ fn read_input(buf: &mut [u8]) -> Taken
     Taken { n, failed: false }
 }
 
+// Says on standard error what went wrong. Where that can't be written either, nothing is left to say it to.
+fn complain(rt: &HostRuntime, words: &[u8]) {
+    let _ = rt.stderr().write_all(words);
+}
+
 // Prints the output of the input, by way of a lent buffer.
-fn print_output(input: &[u8], out: &mut [u8])
+fn print_output(rt: &HostRuntime, input: &[u8], out: &mut [u8])
     requires { 5 * length input.now + 256 ≤ length out.old }
 {
     let end = render(input, out);
-    if !io::write_all(STDOUT_FILENO, &out[..end]) {
-        io::write_all(STDERR_FILENO, b"intake: standard output can't be written\n");
+    if rt.stdout().write_all(&out[..end]).is_err() {
+        complain(rt, b"intake: standard output can't be written\n");
     }
 }
 
-fn main() {
+fn main(rt: HostRuntime) {
     let mut buffer = input_buffer();
-    let taken = read_input(&mut buffer);
+    let taken = read_input(&rt, &mut buffer);
     if taken.failed {
-        io::write_all(STDERR_FILENO, b"intake: standard input can't be read\n");
+        complain(&rt, b"intake: standard input can't be read\n");
         return;
     }
     let n = taken.n;
     if n <= SHORT {
-        let mut out = io::large_buffer();
-        print_output(&buffer[..n], &mut out);
+        let mut out = large_buffer();
+        print_output(&rt, &buffer[..n], &mut out);
         return;
     }
     let mut out = output_buffer();
-    print_output(&buffer[..n], &mut out);
+    print_output(&rt, &buffer[..n], &mut out);
 }
