@@ -5,7 +5,7 @@ use sorts::Sort;
 
 // The refusal's number or 0; the least and greatest length of the list; the sort of the leaves, with the element type; the body's kind, CONTAINMENT for a
 // subset that sheet 1 reads; how many blocks and members; the blocks, each as a number, and the places of the members in the bytes.
-#[derive(Drop)]
+#[derive(Clone, Copy)]
 pub struct Plan {
     pub number: u8,
     pub low: u8,

@@ -62,7 +62,7 @@ passed : (c : tie.Joined-sort) → let start = c.before.before.before.before.bef
 passed c fam plan lent =
     ⊎_elim
     (λ w. passed_by fam _ _ _ _ lent _ w.refusal_by-refusal.ensures plan w.if-refusal-ne-DONE.false)
-    (λ w. passed_whole fam _ _ _ _ lent plan w.false)
+    (λ w. passed_whole fam _ _ _ _ lent plan w.if-sort.false)
     c.if-sort.branch-raw
 
 refusal_by_requires : tie.Need-refusal_by-refusal-requires
@@ -103,10 +103,10 @@ returns_6 c fam plan lent =
     let passes = c.before in
     let plain = passes.before.before in
     let paired = plain.before.before in
-    let met = paired.before.before.before in
+    let met = paired.before.before in
     let zero = met.before.before in
     let long = zero.before.before.before in
-    c.judged.ensures ∙ judge_plain fam _ _ (taken long fam lent) _ plan (passed zero fam plan lent) _ (met_by fam _ _ lent _ _ _ met.before.length_met.ensures) (not-false _ met.if-not-length_met.false-raw) _ (same_size long fam lent) plain.if-plan-eq-CONTAINMENT.true _ (passes.containment_passes.ensures fam lent)
+    c.judged.ensures ∙ judge_plain fam _ _ (taken long.before fam lent) _ plan (passed zero fam plan lent) _ (met_by fam _ _ lent _ _ _ met.before.length_met.ensures) (not-false _ met.if-not-length_met.false-raw) _ (same_size long fam lent) plain.if-plan-eq-CONTAINMENT.true _ (passes.containment_passes.ensures fam lent)
 
 returns_7 : tie.Need-returns-then-left-eq-WRONG
 returns_7 c fam plan lent =

@@ -68,7 +68,7 @@ passed : (c : tie.Joined-sort) → let start = c.before.before.before.before.bef
 passed c fam plan lent =
     ⊎_elim
     (λ w. passed_by fam _ _ _ _ lent _ w.refusal_by-number.ensures plan w.if-number-ne-DONE.false)
-    (λ w. passed_whole fam _ _ _ _ lent plan w.false)
+    (λ w. passed_whole fam _ _ _ _ lent plan w.if-sort.false)
     c.if-sort.branch-raw
 
 refusal_by_requires : tie.Need-refusal_by-number-requires
