@@ -4,7 +4,7 @@ use mathlib.Core.Path.{◌≡◌, refl, sym}
 use mathlib.Core.List.{List, []}
 use Prim.Native.Nat.{ℕ}
 use lib.IntN.{ℤ}
-use denote.Ref.{Bor}
+use denote.Ref.{Bor, MutBor}
 use Rattle.format.specs.declared.Family.{Family}
 use Rattle.grammar.specs.Family.{ElementOf}
 use Rattle.matching.specs.Answer.{Given, given, match_answer, judge_answer}
@@ -28,12 +28,15 @@ normal_answer t lo hi room n l after c =
 unfoldable pub ref : {A : Type 0} → A → Bor A
 ref x = record { ref_ptr = (0, 0); now = x }
 
+unfoldable pub lent_ref : {A : Type 0} → A → MutBor A
+lent_ref x = record { ref_ptr = (0, 0); ghost_name = 0; now = x }
+
 match_lent : (fam : Family) (t : List ℕ) (xs : List (ElementOf fam)) (room : List ℕ) (r : ℕ) (after : List ℕ) → match_answer fam t xs room ≡ given r after → MatchCall fam t xs room r after
-unfolding ref
+unfolding ref lent_ref
 match_lent Family.Integers t xs room r after e = record {
   κs = ([], ([], ([], tt)));
-  lent = (ref t, (ref xs, (ref room, tt)));
-  left = (ref t, (ref xs, (ref after, tt)));
+  lent = (ref t, (ref xs, (lent_ref room, tt)));
+  left = (ref t, (ref xs, (lent_ref after, tt)));
   bytes = refl;
   list = refl;
   room_then = refl;
@@ -42,8 +45,8 @@ match_lent Family.Integers t xs room r after e = record {
 }
 match_lent Family.Floats t xs room r after e = record {
   κs = ([], ([], ([], tt)));
-  lent = (ref t, (ref xs, (ref room, tt)));
-  left = (ref t, (ref xs, (ref after, tt)));
+  lent = (ref t, (ref xs, (lent_ref room, tt)));
+  left = (ref t, (ref xs, (lent_ref after, tt)));
   bytes = refl;
   list = refl;
   room_then = refl;
@@ -82,7 +85,7 @@ pub judge_called : (fam : Family) (t : List ℕ) (xs : List (ElementOf fam)) (w 
 judge_called fam t xs w = (judge_answer fam t xs w, judge_lent fam t xs w)
 
 pub normal_called : (t : List ℕ) (lo hi : ℤ) (room : List ℕ) → (n : ℕ) × (l : ℕ) × (after : List ℕ) × NormalCall t lo hi room n l after
-unfolding ref
+unfolding ref lent_ref
 normal_called t lo hi room = go (normalised lo hi t room) refl
   where
     go : (a : Answer) → normalised lo hi t room ≡ a → (n : ℕ) × (l : ℕ) × (after : List ℕ) × NormalCall t lo hi room n l after
@@ -92,9 +95,9 @@ normal_called t lo hi room = go (normalised lo hi t room) refl
       after,
       record {
         κs = ([], ([], tt));
-        lent = (ref t, (lo, (hi, (ref room, tt))));
+        lent = (ref t, (lo, (hi, (lent_ref room, tt))));
         result = record { number = n; length = l };
-        left = (ref t, (lo, (hi, (ref after, tt))));
+        left = (ref t, (lo, (hi, (lent_ref after, tt))));
         bytes = refl;
         lower = refl;
         upper = refl;

@@ -10,36 +10,36 @@ use Rattle.intake_lines.proofs.input_plan.Reads as input-plan-reads
 use Rattle.lines.proofs.put_line.Reads as put-line-reads
 use Rattle.stream.proofs.template_end.Reads as template-end-reads
 
-input_plan_requires : tie.Need-input-plan-requires
+input_plan_requires : tie.Need-input_plan-plan-requires
 input_plan_requires c κs = search rules
 
-slice_aggregate_put_line : tie.Need-slice-aggregate-put-line
+slice_aggregate_put_line : tie.Need-slice_bounds-put_line-end
 slice_aggregate_put_line c = search rules
 
-put_line_requires : tie.Need-put-line-requires
+put_line_requires : tie.Need-put_line-wrote-requires
 put_line_requires c κs = search rules
 
-same_length : tie.Need-same-length
+same_length : tie.Need-shape_of-out-then-plan-ne-DONE
 same_length c = search rules
 
-returns : tie.Need-returns
+returns : tie.Need-returns-then-plan-ne-DONE
 returns c =
     let at_put_line = c.before.before in
-    let at_if1 = at_put_line.before.before.before in
+    let at_if1 = at_put_line.before.before in
     let planned = at_if1.before.before in
-    headed_refused planned.before.before.before.args.input.now _ _ _ _ planned.input-plan.ensures at_if1.if1.true at_put_line.put-line.ensures
+    headed_refused planned.args.input.now _ _ _ _ planned.input_plan-plan.ensures at_if1.if-plan-ne-DONE.true at_put_line.put_line-wrote.ensures
 
-template_end_requires : tie.Need-template-end-requires
+template_end_requires : tie.Need-template_end-requires
 template_end_requires c κs =
     let planned = c.before.before in
-    let h = headed_long planned.before.before.before.args.input.now _ planned.input-plan.ensures c.if1.false in
+    let h = headed_long planned.args.input.now _ planned.input_plan-plan.ensures c.if-plan-ne-DONE.false in
     omega arith
 
-returns_2 : tie.Need-returns-2
+returns_2 : tie.Need-returns
 returns_2 c =
     let planned = c.before.before.before in
-    let a = planned.before.before.before.args in
-    headed_found a.input.now _ a.out.now c.template-end.result planned.input-plan.ensures c.before.if1.false c.template-end.ensures
+    let a = planned.args in
+    headed_found a.input.now _ a.out.now c.template_end.result planned.input_plan-plan.ensures c.if-plan-ne-DONE.false c.template_end.ensures
 
 pub open_input_spec : {M : Type 1} → statement M
 open_input_spec =
