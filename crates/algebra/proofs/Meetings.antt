@@ -24,7 +24,7 @@ use Rattle.forms.proofs.Accepts.{read_inv}
 use Rattle.meeting.specs.Meeting.{both as both_of, is_form, met, meet_read, meeting_of}
 use Rattle.meeting.proofs.WholeForms.{Under, refused_under, read_as, under}
 use Rattle.demands.specs.NormalForms.{Accepted}
-use Rattle.demands.proofs.Calls.{ref}
+use Rattle.demands.proofs.Calls.{ref, lent_ref}
 use Rattle.demands.proofs.Outcomes.{in_order_lem}
 use Rattle.demands.specs.Claims.{RefusedBy, by_length, by_bounds, by_scan}
 use Rattle.algebra.specs.Calls.{MeetingCall}
@@ -38,7 +38,7 @@ meeting_answer s t lo hi room n l after c =
     let p = c.allowed in let a = c.first in let b = c.second in let g = c.lower in let h = c.upper in let d = c.room_then in let e = c.number in let f = c.size in let i = c.room_now in cc
 
 pub meeting_called : EveryMeeting
-unfolding ref
+unfolding ref lent_ref
 meeting_called s t lo hi room = go (meeting_of lo hi s t room) refl
   where
     go : (a : Answer) → meeting_of lo hi s t room ≡ a → (n : ℕ) × (l : ℕ) × (after : List ℕ) × MeetingCall s t lo hi room n l after
@@ -48,9 +48,9 @@ meeting_called s t lo hi room = go (meeting_of lo hi s t room) refl
       after,
       record {
         κs = ([], ([], ([], tt)));
-        lent = (ref s, (ref t, (lo, (hi, (ref room, tt)))));
+        lent = (ref s, (ref t, (lo, (hi, (lent_ref room, tt)))));
         result = record { number = n; length = l };
-        left = (ref s, (ref t, (lo, (hi, (ref after, tt)))));
+        left = (ref s, (ref t, (lo, (hi, (lent_ref after, tt)))));
         first = refl;
         second = refl;
         lower = refl;
