@@ -2,16 +2,16 @@
 // that member m may take element e. Chains start at members, so the search goes by columns, the rows turned.
 #![tactic(auto)]
 
-ghost use Rattle.std.specs.Prelude.{◌≡◌, false, ◌+◌, ◌≤◌};
+ghost use Rattle.std.specs.Prelude.{◌≡◌, false, ◌+◌, ◌≤◌, is_some};
 ghost use Rattle.assign.specs.Splice.{Spliced};
+ghost use Rattle.blocks.specs.Pieces.{bytes_of};
 ghost use Rattle.masks.specs.Masks.{bit};
 ghost use Rattle.rows.specs.Rows.{may};
 ghost use Rattle.assign.specs.Answer.{Answer};
 ghost use Rattle.assign.specs.Saturate.{Unwanted};
 ghost use Rattle.assign.specs.Widest.{Widest};
 
-use blocks::Found;
-use format::{MEMBERS_MOST, SPARE};
+use format::MEMBERS_MOST;
 use masks::{meets, span};
 use refining::refine;
 use rows::turned;
@@ -33,46 +33,31 @@ fn spare_wanted(rows: &[u32; 32], block: u32, from: u8, to: u8, w: [u8; 32]) -> 
     ensures { result ≡ false → Unwanted (may rows.now) (bit block) from to w }
 {
     let mut able: u32 = 0;
-    let mut e = from;
-    while e < to {
+    for e in from..to {
         if w[e as usize] >= MEMBERS_MOST {
-            let row = rows[e as usize];
-            able = able | row;
+            able |= rows[e as usize];
         }
-        e += 1;
     }
     meets(able, block)
 }
 
-// The first assignment of the elements from .. to - 1 by the members first .. first + k - 1.
-pub fn first_assignment(rows: &[u32; 32], first: u8, k: u8, from: u8, to: u8) -> Found
+// The first assignment of the elements from .. to - 1 by the members first .. first + k - 1, if there is one.
+pub fn first_assignment(rows: &[u32; 32], first: u8, k: u8, from: u8, to: u8) -> Option<[u8; 32]>
     requires { (first + k ≤ 32) × (from ≤ to) × (to ≤ 32) }
-    ensures { Answer (may rows.now) first k from to result.found result.w }
+    ensures { Answer (may rows.now) first k from to (is_some result) (bytes_of result) }
 {
     let q = quick::quick(rows, first, k, from, to);
     let begun = q.w;
     if q.waiting == 0 {
-        return Found {
-            found: true,
-            w: begun,
-        };
+        return Some(begun);
     }
     let block = span(first, first + k);
     if !spare_wanted(rows, block, from, to, begun) {
-        let blank = [SPARE; 32];
-        return Found {
-            found: false,
-            w: blank,
-        };
+        return None;
     }
     let columns = turned(rows, first, k, from, to);
-    let s = saturate::saturate(&columns, from, to, begun, q.waiting);
-    if !s.found {
-        return s;
-    }
-    let w = s.w;
-    let x = refine(rows, &columns, first, k, from, to, w);
-    Found { found: true, w: x }
+    let w = saturate::saturate(&columns, from, to, begun, q.waiting)?;
+    Some(refine(rows, &columns, first, k, from, to, w))
 }
 
 // As many of the members below k as can be, each with an element below n of its own; the others wait.
@@ -92,11 +77,6 @@ pub fn splice(a: [u8; 32], b: [u8; 32], from: usize, to: usize) -> [u8; 32]
     ensures { Spliced a b from to result }
 {
     let mut r = b;
-    let mut e = from;
-    while e < to {
-        let x = a[e];
-        r[e] = x;
-        e += 1;
-    }
+    r[from..to].copy_from_slice(&a[from..to]);
     r
 }

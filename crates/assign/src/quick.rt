@@ -15,8 +15,7 @@ pub fn quick(rows: &[u32; 32], first: u8, k: u8, from: u8, to: u8) -> Served
 {
     let mut w = [SPARE; 32];
     let mut left = span(first, first + k);
-    let mut e = from;
-    while e < to {
+    for e in from..to {
         // nobody is left: the other elements are spare
         if left == 0 {
             return Served { w, waiting: left };
@@ -27,7 +26,6 @@ pub fn quick(rows: &[u32; 32], first: u8, k: u8, from: u8, to: u8) -> Served
             w[e as usize] = m;
             left = flip(left, m);
         }
-        e += 1;
     }
     Served { w, waiting: left }
 }

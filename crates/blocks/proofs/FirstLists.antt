@@ -1,5 +1,5 @@
 -- The first list of a kind, as `Best` says it, and tests that say whether something holds. Assumes nothing.
--- best_complete, best_found: where there is a list, one is found, and none comes before it. best_unique, found_unique: one answer, every byte included. best_same: of what is equivalent. none_best: there is none.
+-- best_complete, best_found: where there is a list, one is found, and none comes before it. best_unique, found_unique, found_same: one answer, every byte included. best_same: of what is equivalent. none_best: there is none.
 -- passing_true, passing_false: a test that is known. passing_same: of what is equivalent. passing_holds, passing_unique: what holds passes, and there is one answer.
 use mathlib.Core.Path.{◌≡◌, refl, sym, ap, ap₂, ◌∙◌}
 use mathlib.Core.Logic.{◌⊎◌, ⊎_elim}
@@ -10,8 +10,10 @@ use native.Mathlib.Omega.{arith}
 use lib.ListN.{length, get_or, take, replicate, length-replicate, get_or-replicate}
 use lib.Seq.{get_or-take, ext_get_or}
 use Rattle.byte_order.specs.ByteOrder.{earlier}
-use Rattle.blocks.specs.Pieces.{Best, Passing}
-use Rattle.blocks.specs.declared.Found.{Found}
+use Rattle.std.specs.declared.option.Option.{Option}
+use Rattle.std.specs.declared.option.Option.TheVariants.{Some, None}
+use Rattle.std.specs.Option.{is_some}
+use Rattle.blocks.specs.Pieces.{Best, Passing, bytes_of}
 use Rattle.facts.proofs.Cases.{below, holds?, clash, not_so}
 use Rattle.byte_order.proofs.ByteOrder.{first_unique, first_same}
 
@@ -58,9 +60,16 @@ best_unique {P} {n} {found} {found'} {w} {w'} b c = ⊎_elim
     (f ∙ sym g, b.blank f ∙ sym (c.blank g)))
     (holds? found)
 
+-- what is found is one answer, where it says the same and has the same bytes
+pub found_same : (r r' : Option (List ℕ)) → is_some r ≡ is_some r' → bytes_of r ≡ bytes_of r' → r ≡ r'
+found_same None None q e = refl
+found_same None (Some w) q e = absurd (clash q refl)
+found_same (Some w) None q e = absurd (clash refl q)
+found_same (Some w) (Some w') q e = ap Some e
+
 -- so a function that gives the first list has one result
-pub found_unique : {P : List ℕ → Type 0} {n : ℕ} (r r' : Found) → Best P n r.found r.w → Best P n r'.found r'.w → r ≡ r'
-found_unique r r' b c = let u = best_unique b c in ap₂ (λ (found : Bool) (w : List ℕ). record { found = found; w = w }) u.0 u.1
+pub found_unique : {P : List ℕ → Type 0} {n : ℕ} (r r' : Option (List ℕ)) → Best P n (is_some r) (bytes_of r) → Best P n (is_some r') (bytes_of r') → r ≡ r'
+found_unique r r' b c = let u = best_unique b c in found_same r r' u.0 u.1
 
 -- what holds passes
 pub passing_holds : {P : Type 0} {r : Bool} → Passing P r → P → r ≡ true

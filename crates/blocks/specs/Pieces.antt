@@ -8,13 +8,14 @@
 -- Fills may k n w <-> w gives each of the elements 0 .. n - 1 a member below k that may take it, and no member twice
 -- is_one b == b is one member and no spare element
 -- Inside bs <-> the members of each block are below 32
+-- bytes_of r == the bytes that were found; where there are none, 255 for each of 32 elements
 -- Best P n found w <-> the first n bytes of w are the first list of P in byte order, where P has one; every other byte of w is 255
 -- Cutting may bs n found w <-> the first cut in byte order, where there is one; every other byte of w is 255
 -- Containing may k n found w <-> the same of `first_containment`
 -- Filling may k n found w <-> the same of `first_filling`
 -- Passing P r <-> r says whether P holds
 -- Assumes nothing: these are definitions.
-use Rattle.std.specs.Prelude.{◌≡◌, Bool, true, false, ◌&&◌, List, [], ◌∷◌, ℕ, ◌+◌, ◌-◌, ◌≤◌, ◌<◌, eqb, length, get_or, take, replicate}
+use Rattle.std.specs.Prelude.{◌≡◌, Bool, true, false, ◌&&◌, List, [], ◌∷◌, ℕ, ◌+◌, ◌-◌, ◌≤◌, ◌<◌, eqb, length, get_or, take, replicate, Option, unwrap_or}
 use Rattle.byte_order.specs.ByteOrder.{First, Joins}
 use Rattle.facts.specs.Counting.{cnt}
 use Rattle.blocks.specs.Assignment.{Assigns}
@@ -52,6 +53,9 @@ is_one b = eqb b.k 1 && (eqb b.min 0 && eqb b.max 0)
 unfoldable pub Inside : List Block → Type 0
 Inside [] = Unit {0}
 Inside (b ∷ bs) = (b.first + b.k ≤ 32) × Inside bs
+
+abbrev pub bytes_of : Option (List ℕ) → List ℕ
+bytes_of r = unwrap_or r (replicate 32 255)
 
 pub record Best (P : List ℕ → Type 0) (n : ℕ) (found : Bool) (w : List ℕ) : Type 0 where
   pub best : found ≡ true → First P (take n w)
