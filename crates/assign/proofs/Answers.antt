@@ -1,11 +1,15 @@
--- An answer of `first_assignment`: one is found where there is one, and the promise allows one answer. Assumes nothing.
-use mathlib.Core.Path.{◌≡◌, sym, ◌∙◌}
+-- An answer of `first_assignment`: one is found where there is one, and the promise allows one answer. answer_at: what an Option with a list in it says. Assumes nothing.
+use mathlib.Core.Path.{◌≡◌, sym, ◌∙◌, subst}
 use mathlib.Core.Logic.{◌⊎◌, ⊎_elim}
 use mathlib.Core.Bool.{Bool, true, false}
 use mathlib.Core.List.{List}
 use Prim.Native.Nat.{ℕ, ◌-◌}
 use lib.Seq.{slice}
+use Rattle.std.specs.declared.option.Option.{Option}
+use Rattle.std.specs.declared.option.Option.TheVariants.{Some}
+use Rattle.std.specs.Option.{is_some}
 use Rattle.blocks.specs.Assignment.{Assigns}
+use Rattle.blocks.specs.Pieces.{bytes_of}
 use Rattle.assign.specs.Answer.{Answer}
 use Rattle.facts.proofs.Cases.{holds?, clash, not_so}
 use Rattle.facts.proofs.Slices.{same_around}
@@ -29,3 +33,6 @@ answer_unique {may} {first} {k} {from} {to} {found} {found'} {w} {w'} p q = ⊎_
     let f' = not_so found' (λ t. clash (both_found q p t) f) in
     (f ∙ sym f', p.blank f ∙ sym (q.blank f')))
     (holds? found)
+
+pub answer_at : {may : ℕ → ℕ → Bool} {first k from to : ℕ} {r : Option (List ℕ)} {w : List ℕ} → Answer may first k from to (is_some r) (bytes_of r) → r ≡ Some w → Answer may first k from to true w
+answer_at {may} {first} {k} {from} {to} {r} {w} h q = subst (λ (x : Option (List ℕ)). Answer may first k from to (is_some x) (bytes_of x)) q h

@@ -4,7 +4,7 @@
 
 ghost use Rattle.std.specs.Prelude.{◌+◌, ◌≤◌};
 
-use blocks::Found;
+use format::SPARE;
 use masks::with;
 use rows::turned;
 use std::io::Write;
@@ -24,15 +24,13 @@ fn write(rt: &HostRuntime, line: &[u8; 35]) {
     let _ = rt.stdout().write_all(line);
 }
 
-fn show(rt: &HostRuntime, f: Found) {
-    let w = f.w;
+fn show(rt: &HostRuntime, found: Option<[u8; 32]>) {
     let mut line = [b' '; 35];
-    line[0] = if f.found { b'1' } else { b'0' };
+    line[0] = if found.is_some() { b'1' } else { b'0' };
     line[34] = b'\n';
-    let mut i: usize = 0;
-    while i < 32 {
+    let w = found.unwrap_or([SPARE; 32]);
+    for i in 0..32 {
         line[i + 2] = letter(w[i]);
-        i += 1;
     }
     write(rt, &line);
 }
@@ -50,11 +48,9 @@ fn ring(n: u8) -> [u32; 32]
     requires { (1 ≤ n) × (n ≤ 32) }
 {
     let mut rows = [0u32; 32];
-    let mut m: u8 = 0;
-    while m < n {
+    for m in 0..n {
         let next = if m + 1 < n { m + 1 } else { 0 };
         rows[m as usize] = with(with(0, m), next);
-        m += 1;
     }
     rows
 }
@@ -63,11 +59,9 @@ fn ring(n: u8) -> [u32; 32]
 fn falling_stairs() -> [u32; 32] {
     let mut rows = [0u32; 32];
     let mut row: u32 = 0xffff_ffff;
-    let mut m: usize = 0;
-    while m < 32 {
-        rows[m] = row;
-        row = row / 2;
-        m += 1;
+    for line in &mut rows {
+        *line = row;
+        row /= 2;
     }
     rows
 }

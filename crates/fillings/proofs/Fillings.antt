@@ -15,6 +15,7 @@ use Rattle.facts.specs.Counting.{between, one_if, cnt, count}
 use Rattle.rows.specs.Rows.{may}
 use Rattle.blocks.specs.Assignment.{takes, Assigns}
 use Rattle.assign.specs.Answer.{Answer}
+use Rattle.std.proofs.lemmas.List.{length-take-le, get_or_append_left, get_or-append_right, get_or-drop}
 use Rattle.facts.proofs.Cases.{same?, below, clash, not_so, hit, miss}
 use Rattle.facts.proofs.Spans.{between_in}
 use Rattle.byte_order.proofs.ByteOrder.{earlier_append_left}
@@ -301,35 +302,18 @@ filling_answer {may} {padded} {k} {n} {found} {w} {r} few l p a s =
           (below i n));
     }
 
--- ---- the rows: full ones, then those of the elements in turn
-pub record PaddedTo (rows : List ℕ) (k e : ℕ) (r : List ℕ) : Type 0 where
-  pub size : length r ≡ 32
-  pub padded : Padded (may rows) e k (may r)
-
-pub padded_start : {rows : List ℕ} {k all : ℕ} → ((m : ℕ) → bit all m ≡ between 0 k m) → PaddedTo rows k 0 (replicate 32 all)
+-- ---- the rows: those of the elements, then full ones
+pub padded_copied : (rows front : List ℕ) {k n : ℕ} (all : ℕ) → n ≤ 32 → length rows ≡ 32 → front ≡ take n rows → ((m : ℕ) → bit all m ≡ between 0 k m)
+    → Padded (may rows) n k (may (front ++ drop n (replicate 32 all)))
 unfolding may
-padded_start {rows} {k} {all} h = record {
-  size = length-replicate {A = ℕ} 32 all;
-  padded = record {
-    own = λ m e l. absurd (omega arith);
-    full = λ m e _ l. ap (λ (x : ℕ). bit x m) (get_or-replicate {A = ℕ} 32 e all 0 l) ∙ h m;
-  };
-}
-
-pub padded_step : {rows r : List ℕ} {e k : ℕ} → e < 32 → PaddedTo rows k e r → PaddedTo rows k (e + 1) (set r e (get_or rows e 0))
-unfolding may
-padded_step {rows} {r} {e} {k} h g =
-    let size = g.size in
-    let p = g.padded in
-    let row = get_or rows e 0 in
-    let other : (m i : ℕ) → (i ≡ e → ⊥) → bit (get_or (set r e row) i 0) m ≡ bit (get_or r i 0) m = λ m i q. ap (λ (x : ℕ). bit x m) (get_or-set_other r e i row 0 q) in
+padded_copied rows front {k} {n} row few long same h =
+    let size : length front ≡ n = ap (λ (x : List ℕ). length x) same ∙ length-take-le n rows (omega arith) in
     record {
-      size = length-set r e row ∙ size;
-      padded = record {
-        own = λ m i l. ⊎_elim
-            (λ (q : i ≡ e). rw q (ap (λ (x : ℕ). bit x m) (get_or-set_same r e row 0 (omega arith))))
-            (λ (q : i ≡ e → ⊥). other m i q ∙ p.own m i (omega arith))
-            (same? i e);
-        full = λ m i f l. other m i (λ q. omega arith) ∙ p.full m i (omega arith) l;
-      };
+      own = λ m e l.
+          let there : get_or front e 0 ≡ get_or rows e 0 = ap (λ (x : List ℕ). get_or x e 0) same ∙ get_or-take n rows e 0 l in
+          ap (λ (x : ℕ). bit x m) (get_or_append_left front (drop n (replicate 32 row)) 0 e (omega arith) ∙ there);
+      full = λ m e g l.
+          let right = get_or-append_right front (drop n (replicate 32 row)) n e 0 size g in
+          let at : n + (e - n) ≡ e = omega arith in
+          ap (λ (x : ℕ). bit x m) (right ∙ get_or-drop n (replicate 32 row) (e - n) 0 ∙ ap (λ (i : ℕ). get_or (replicate 32 row) i 0) at ∙ get_or-replicate {A = ℕ} 32 e row 0 l) ∙ h m;
     }

@@ -11,10 +11,7 @@ pub fn padded(rows: &[u32; 32], n: u8, k: u8) -> [u32; 32]
     ensures { Padded (may rows.now) n k (may result) }
 {
     let mut r = [span(0, k); 32];
-    let mut e: usize = 0;
-    while e < n as usize {
-        r[e] = rows[e];
-        e += 1;
-    }
+    let size = n as usize;
+    r[..size].copy_from_slice(&rows[..size]);
     r
 }

@@ -1,18 +1,18 @@
 // The first cut of a list in byte order, from the first block on, where the places are known from which the blocks after each can go on.
 #![tactic(auto)]
 
-ghost use Rattle.std.specs.Prelude.{◌≡◌, Bool, true, ℕ, ◌+◌, ◌≤◌, ◌<◌, length, take, get_or, List};
+ghost use Rattle.std.specs.Prelude.{◌≡◌, Bool, true, ℕ, ◌+◌, ◌≤◌, ◌<◌, length, take, get_or, List, is_some};
 ghost use Rattle.assign.specs.Splice.{Spliced};
 ghost use Rattle.rows.specs.Rows.{may as may_rows};
 ghost use Rattle.masks.specs.Masks.{bit, Plus};
 ghost use Rattle.blocks.specs.Numbers.{block_in, blocks_in};
-ghost use Rattle.blocks.specs.Pieces.{Inside, Cutting, is_one};
+ghost use Rattle.blocks.specs.Pieces.{Inside, Cutting, is_one, bytes_of};
 ghost use Rattle.places.specs.Ways.{Low};
 ghost use Rattle.fronts.specs.Fronts.{Leading, Standing, Moved};
 ghost use Rattle.fronts.specs.Picks.{Picking};
 ghost use Rattle.fronts.specs.Given.{Ready, ReadyFor, Known, KnownFor, Prepares, Prepared, Halfway, HalfwayFor, is_group};
 
-use blocks::{Block, Found, block_at, is_one};
+use blocks::{Block, block_at, is_one};
 use format::SPARE;
 use masks::with_place;
 use pick::{first_member, first_piece, start};
@@ -58,11 +58,7 @@ fn copy_piece(a: &[u8; 32], from: usize, to: usize, w: &mut [u8; 32])
     requires { (from ≤ to) × (to ≤ 32) × (length w.old ≡ 32) }
     ensures { Spliced a.now w.old from to w.new }
 {
-    let mut e = from;
-    while e < to {
-        w[e] = a[e];
-        e += 1;
-    }
+    w[from..to].copy_from_slice(&a[from..to]);
 }
 
 // A group settles what comes up to the last member of g, the first of its lists, which ends at `to` or before. It may begin at each place up to the first.
@@ -131,12 +127,9 @@ fn cut_on(
     ensures { (may : ℕ → ℕ → Bool) → Halfway may rows.now count blocks.now ends.now n j f.places f.from w.old → Cutting may (blocks_in (take count blocks.now)) n true w.new }
 {
     let mut front = f;
-    let mut i = j;
-    while i < count {
+    for i in j..count {
         let b = block_at(blocks, i);
-        let good = ends[i];
-        front = after_block(rows, b, front, good, w);
-        i += 1;
+        front = after_block(rows, b, front, ends[i], w);
     }
 }
 
@@ -164,24 +157,20 @@ pub fn first_cut_by_group(
     count: usize,
     ends: &[u64; 32],
     n: u8,
-) -> Found
+) -> Option<[u8; 32]>
     requires { (0 < count) × (count ≤ 32) × (n ≤ 32) × Inside (blocks_in (take count blocks.now)) × (is_group (block_in (get_or blocks.now 0 0)) ≡ true) × KnownFor rows.now count blocks.now ends.now n }
-    ensures { (may : ℕ → ℕ → Bool) → Known may rows.now count blocks.now ends.now n → Cutting may (blocks_in (take count blocks.now)) n result.found result.w }
+    ensures { (may : ℕ → ℕ → Bool) → Known may rows.now count blocks.now ends.now n → Cutting may (blocks_in (take count blocks.now)) n (is_some result) (bytes_of result) }
 {
-    let blank = [SPARE; 32];
     let f = at_start();
     let b = block_at(blocks, 0);
     let good = ends[0];
-    let mut g = blank;
+    let mut g = [SPARE; 32];
     let s = start(rows, b, f.places, good, &mut g);
     if s.to == 0 {
-        return Found {
-            found: false,
-            w: blank,
-        };
+        return None;
     }
-    let mut w = blank;
+    let mut w = [SPARE; 32];
     let next = settle_group(&g, s.to, b, f, good, &mut w);
     cut_on(rows, blocks, 1, count, ends, n, next, &mut w);
-    Found { found: true, w: w }
+    Some(w)
 }

@@ -25,14 +25,12 @@ fn comes_before(a: &[u8; 32], b: &[u8; 32]) -> bool
     requires { (length a.now ≡ 32) × (length b.now ≡ 32) }
     ensures { result ≡ earlier a.now b.now }
 {
-    let mut e: usize = 0;
-    while e < 32 {
+    for e in 0..32 {
         let x = a[e];
         let y = b[e];
         if x != y {
             return x < y;
         }
-        e += 1;
     }
     false
 }
@@ -42,15 +40,12 @@ pub fn first_member(w: &[u8; 32], from: usize, to: usize) -> usize
     requires { (from ≤ to) × (to ≤ 32) }
     ensures { FirstMember w.now from to result }
 {
-    let mut p = from;
-    while p < to {
-        let x = w[p];
-        if x != SPARE {
+    for p in from..to {
+        if w[p] != SPARE {
             return p;
         }
-        p += 1;
     }
-    p
+    to
 }
 
 // The first list from the least of the places, to the furthest end: it is no later than any to a nearer end. Lists that begin after its first
@@ -67,11 +62,9 @@ pub fn start(rows: &[u32; 32], b: Block, places: u64, ends: u64, best: &mut [u8;
         return Pick { to: 0, rest: 0 };
     }
     let t = highest_place(near);
-    let f = first_assignment(rows, b.first, b.k, p as u8, t as u8);
-    if !f.found {
+    let Some(w) = first_assignment(rows, b.first, b.k, p as u8, t as u8) else {
         return Pick { to: 0, rest: 0 };
-    }
-    let w = f.w;
+    };
     *best = w;
     let head = first_member(best, p, t);
     Pick {
@@ -90,15 +83,11 @@ fn next(rows: &[u32; 32], b: Block, places: u64, ends: u64, s: Pick, best: &mut 
     let most = b.k as usize + b.max as usize;
     let t = highest_place(up_to(ends, p + most));
     if t <= s.to {
-        return Pick {
-            to: s.to,
-            rest: rest,
-        };
+        return Pick { to: s.to, rest };
     }
-    let f = first_assignment(rows, b.first, b.k, p as u8, t as u8);
-    let w = f.w;
+    let w = first_assignment(rows, b.first, b.k, p as u8, t as u8).unwrap();
     if !comes_before(&w, best) {
-        return Pick { to: t, rest: rest };
+        return Pick { to: t, rest };
     }
     *best = w;
     let head = first_member(best, p, t);

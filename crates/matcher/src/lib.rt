@@ -104,7 +104,7 @@ pub fn match_planned(
     }
     let places = plan.places;
     let blocks = plan.blocks;
-    let f = first_witness(
+    let Some(w) = first_witness(
         template,
         &places,
         plan.members,
@@ -113,11 +113,9 @@ pub fn match_planned(
         plan.count,
         integers,
         floats,
-    );
-    if !f.found {
+    ) else {
         return NO_MATCH;
-    }
-    let w = f.w;
+    };
     write_witness(w, n, room);
     DONE
 }

@@ -27,15 +27,12 @@ pub fn after_last(w: &[u8; 32], from: usize, to: usize) -> usize
     requires { (from ≤ to) × (to ≤ 32) }
     ensures { AfterLast w.now from to result }
 {
-    let mut p = to;
-    while from < p {
-        let x = w[p - 1];
-        if x != SPARE {
-            return p;
+    for p in (from..to).rev() {
+        if w[p] != SPARE {
+            return p + 1;
         }
-        p -= 1;
     }
-    p
+    from
 }
 
 // Places from which b leads to a good one, p among them if it does: one search for the furthest end, since nearer ends are no better, and
@@ -47,11 +44,9 @@ fn led_from(rows: &[u32; 32], b: Block, good: u64, p: usize) -> u64
     let least = b.k as usize + b.min as usize;
     let most = b.k as usize + b.max as usize;
     let q = highest_place(up_to(good, p + most));
-    let f = first_assignment(rows, b.first, b.k, p as u8, q as u8);
-    if !f.found {
+    let Some(w) = first_assignment(rows, b.first, b.k, p as u8, q as u8) else {
         return 0;
-    }
-    let w = f.w;
+    };
     let next = after_last(&w, p, q);
     up_to(before_spares(from_on(good, next), least, most), p)
 }

@@ -3,20 +3,20 @@
 // the group is reached. Then from the first block on the first cut.
 #![tactic(auto)]
 
-ghost use Rattle.std.specs.Prelude.{List, ◌≡◌, ℕ, ◌+◌, ◌≤◌, length, take};
+ghost use Rattle.std.specs.Prelude.{List, ◌≡◌, ℕ, ◌+◌, ◌≤◌, length, take, is_some};
 ghost use Rattle.grammar.specs.Element.{Elem};
 ghost use Rattle.format.specs.declared.Family.{Family};
 ghost use Rattle.grammar.specs.Family.{LeafOf, list_of, Lent};
 ghost use Rattle.grammar.specs.Blocks.{Standing};
 ghost use Rattle.blocks.specs.Numbers.{blocks_in};
-ghost use Rattle.blocks.specs.Pieces.{Cutting};
+ghost use Rattle.blocks.specs.Pieces.{Cutting, bytes_of};
 ghost use Rattle.member_rows.specs.Places.{Served, Widened};
 ghost use Rattle.plain.specs.Plain.{Plain};
 ghost use Rattle.places.specs.Ways.{Low};
 ghost use Rattle.member_rows.specs.Contract.{pair_of};
 ghost use Rattle.records.specs.Records.{Below, Joined, Before, left_out};
 
-use blocks::{Block, Found, block_at, is_one};
+use blocks::{Block, block_at, is_one};
 use element_match::{float_hit, hit, hits, leaf_hit};
 use format::{ANY, COMPLEMENT, SPARE};
 use fronts::{first_cut_by_group, first_cut_from};
@@ -108,21 +108,16 @@ fn plain_first(
     count: usize,
     integers: &[i32],
     floats: &[f64],
-) -> Found
+) -> Option<[u8; 32]>
     requires { Served t.now places.now members integers.now floats.now × (count ≤ members) }
-    ensures { (f : Family) → Lent f integers.now floats.now → (es : List (Elem (LeafOf f))) (vs : List ℕ) → Standing f t.now es (take members places.now) → Plain count vs → Cutting (pair_of f es (list_of f integers.now floats.now)) (blocks_in (take count vs)) (length integers.now + length floats.now) result.found result.w }
+    ensures { (f : Family) → Lent f integers.now floats.now → (es : List (Elem (LeafOf f))) (vs : List ℕ) → Standing f t.now es (take members places.now) → Plain count vs → Cutting (pair_of f es (list_of f integers.now floats.now)) (blocks_in (take count vs)) (length integers.now + length floats.now) (is_some result) (bytes_of result) }
 {
     let n = integers.len() + floats.len();
-    let blank = [SPARE; 32];
-    let mut w = blank;
     if n != count {
-        return Found {
-            found: false,
-            w: blank,
-        };
+        return None;
     }
-    let mut e: usize = 0;
-    while e < n {
+    let mut w = [SPARE; 32];
+    for e in 0..n {
         let at = places[e] as usize;
         let kind = t[at];
         let right = if kind < ANY {
@@ -135,15 +130,11 @@ fn plain_first(
             hit(t, at, integers, floats, e)
         };
         if !right {
-            return Found {
-                found: false,
-                w: blank,
-            };
+            return None;
         }
         w[e] = e as u8;
-        e += 1;
     }
-    Found { found: true, w: w }
+    Some(w)
 }
 
 // The first cut of the list in byte order by the first `count` blocks, by the places from which they go on.
@@ -155,9 +146,9 @@ fn first_by_places(
     count: usize,
     integers: &[i32],
     floats: &[f64],
-) -> Found
+) -> Option<[u8; 32]>
     requires { Served t.now places.now members integers.now floats.now × (count ≤ 32) × Below members (blocks_in (take count blocks.now)) }
-    ensures { (f : Family) → Lent f integers.now floats.now → (es : List (Elem (LeafOf f))) → Standing f t.now es (take members places.now) → Cutting (pair_of f es (list_of f integers.now floats.now)) (blocks_in (take count blocks.now)) (length integers.now + length floats.now) result.found result.w }
+    ensures { (f : Family) → Lent f integers.now floats.now → (es : List (Elem (LeafOf f))) → Standing f t.now es (take members places.now) → Cutting (pair_of f es (list_of f integers.now floats.now)) (blocks_in (take count blocks.now)) (length integers.now + length floats.now) (is_some result) (bytes_of result) }
 {
     let n = integers.len() + floats.len();
     let wide = widened(integers);
@@ -165,30 +156,23 @@ fn first_by_places(
     let mut ends: [u64; 32] = [0; 32];
     let mut good = with_place(0, n);
     let last = left_out(block_at(blocks, 0));
-    let mut j = count;
-    while last < j {
-        j -= 1;
+    for j in (last..count).rev() {
         ends[j] = good;
         let b = block_at(blocks, j);
         good = before_block(
             t, places, members, integers, floats, &wide, &mut rows, b, good,
         );
     }
-    if j != 0 {
+    if last != 0 && count != 0 {
         ends[0] = good;
         let b = block_at(blocks, 0);
         mark_group(t, places, members, integers, floats, &wide, &mut rows, b);
         return first_cut_by_group(&rows, blocks, count, &ends, n as u8);
     }
-    let blank = [SPARE; 32];
     if !has_place(good, 0) {
-        return Found {
-            found: false,
-            w: blank,
-        };
+        return None;
     }
-    let w = first_cut_from(&rows, blocks, count, &ends, n as u8);
-    Found { found: true, w: w }
+    Some(first_cut_from(&rows, blocks, count, &ends, n as u8))
 }
 
 // The first cut of the list in byte order by the first `count` blocks.
@@ -200,9 +184,9 @@ pub fn first_in_record(
     count: usize,
     integers: &[i32],
     floats: &[f64],
-) -> Found
+) -> Option<[u8; 32]>
     requires { Served t.now places.now members integers.now floats.now × (count ≤ 32) × Below members (blocks_in (take count blocks.now)) }
-    ensures { (f : Family) → Lent f integers.now floats.now → (es : List (Elem (LeafOf f))) → Standing f t.now es (take members places.now) → Cutting (pair_of f es (list_of f integers.now floats.now)) (blocks_in (take count blocks.now)) (length integers.now + length floats.now) result.found result.w }
+    ensures { (f : Family) → Lent f integers.now floats.now → (es : List (Elem (LeafOf f))) → Standing f t.now es (take members places.now) → Cutting (pair_of f es (list_of f integers.now floats.now)) (blocks_in (take count blocks.now)) (length integers.now + length floats.now) (is_some result) (bytes_of result) }
 {
     if is_plain(blocks, count) {
         return plain_first(t, places, members, count, integers, floats);

@@ -5,7 +5,7 @@ use Rattle.sheets.proofs.LeastMembers.{least_start, least_step, least_none, leas
 use Rattle.sheets.proofs.first_containment.Goals as goal
 
 pub loop-e-init : goal.loop-e-init
-loop-e-init c = (omega arith, least_start)
+loop-e-init c = least_start
 
 pub lowest-requires : goal.lowest-requires
 lowest-requires c = let some = c.if-row-eq0.false in omega arith
@@ -14,13 +14,10 @@ pub returns-then-row-eq0 : goal.returns-then-row-eq0
 returns-then-row-eq0 c = none_best refl (least_none _ _ _ _ c.below-members.ensures _ c.loop-e-test.true c.if-row-eq0.true)
 
 pub loop-e-preserved : goal.loop-e-preserved
-loop-e-preserved c =
-    let i = c.loop-e.invariant in
-    (omega arith, least_step _ _ _ _ c.below-members.ensures i.1 (omega arith) c.lowest.ensures)
+loop-e-preserved c = least_step _ _ _ _ c.below-members.ensures c.loop-e.invariant (omega arith) c.lowest.ensures
 
 pub returns : goal.returns
 returns c =
-    let g = c.loop-e.invariant.1 in
-    let p = c.requires in
+    let g = c.loop-e.invariant in
     let done : c.loop-e.e ≡ c.args.n = omega arith in
-    least_best p.1 (rw done at g)
+    least_best c.requires.1 (rw done at g)

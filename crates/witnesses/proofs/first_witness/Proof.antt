@@ -6,9 +6,10 @@ use lib.ListN.{length}
 use Rattle.grammar.specs.Family.{list_of}
 use Rattle.grammar.proofs.Families.{lent_size}
 use Rattle.member_rows.proofs.RowByRow.{served_few}
+use Rattle.std.specs.Option.{is_some}
 use mathlib.Core.List.{List, [], ◌∷◌}
 use Rattle.blocks.specs.declared.Block.{Block}
-use Rattle.blocks.specs.Pieces.{Cutting}
+use Rattle.blocks.specs.Pieces.{Cutting, bytes_of}
 use Rattle.member_rows.specs.Contract.{pair_of}
 use mathlib.Core.Path.{sym, ap, ◌∙◌, subst}
 use Rattle.witnesses.proofs.ByKind.{first_subset, first_plain, first_blocks}
@@ -79,7 +80,7 @@ returns_4 c fam lent es s =
     let alone = start.requires.3.alone other.if-kind-eq-RECORD_OF.false other.if-kind-eq-SUBSET.false ∙ ap (λ (b : Block). b ∷ []) (sym found.block_at-b.ensures) in
     first_blocks _ _ _ _ _ other.if-kind-eq-SUBSET.false found.if-kind-eq-CONTAINMENT.false
     (subst
-    (λ (bs : List Block). Cutting (pair_of fam es (list_of fam a.integers.now a.floats.now)) bs (length a.integers.now + length a.floats.now) c.first_of_block.result.found c.first_of_block.result.w)
+    (λ (bs : List Block). Cutting (pair_of fam es (list_of fam a.integers.now a.floats.now)) bs (length a.integers.now + length a.floats.now) (is_some c.first_of_block.result) (bytes_of c.first_of_block.result))
     (sym alone)
     (cutting_pairs fam es (list_of fam a.integers.now a.floats.now) _ _ (lent_size fam _ _ lent) (other.rows_of-rows.ensures fam lent es s) _ c.first_of_block.ensures))
 
