@@ -96,8 +96,7 @@ fn ranges_at(
 {
     let mut p = at;
     let mut last = lower;
-    let mut k: usize = 0;
-    while k < n {
+    for k in 0..n {
         let r = record_at(t, p);
         let a = r.lower;
         let b = r.upper;
@@ -111,7 +110,6 @@ fn ranges_at(
         hi[k] = b;
         p = r.next;
         last = bound_after(b, upper);
-        k += 1;
     }
     p == t.len()
 }

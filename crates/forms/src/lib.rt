@@ -8,7 +8,7 @@ ghost use Rattle.ranges.specs.Shown.{view, Few};
 ghost use Rattle.forms.specs.Form.{record_of, records, matched_form, unmatched_form, record_length, records_length, matched_length, unmatched_length, side_form, side_length};
 
 use format::{ANY, ANY_SIZE, COMPLEMENT, COUNT_SIZE, LIST, RANGE, RANGE_SIZE, SINGLE, SINGLE_SIZE};
-use integers::{put_int, same};
+use integers::put_int;
 
 // The record of one integer, at the front of `out`.
 fn put_single(out: &mut [u8], x: i32)
@@ -33,7 +33,7 @@ fn put_range(out: &mut [u8], lower: i32, upper: i32)
 fn record_length(lower: i32, upper: i32) -> usize
     ensures { result ≡ record_length (span lower upper) }
 {
-    if same(lower, upper) {
+    if lower == upper {
         SINGLE_SIZE
     } else {
         RANGE_SIZE
@@ -45,7 +45,7 @@ fn put_record(out: &mut [u8], lower: i32, upper: i32)
     requires { record_length (span lower upper) ≤ length out.old }
     ensures { out.new ≡ record_of (span lower upper) ++ drop (record_length (span lower upper)) out.old }
 {
-    if same(lower, upper) {
+    if lower == upper {
         put_single(out, lower);
     } else {
         put_range(out, lower, upper);
@@ -58,12 +58,10 @@ fn records_length(lo: &[i32], hi: &[i32], n: usize) -> usize
     ensures { result ≡ records_length (view n lo.now hi.now) }
 {
     let mut length: usize = 0;
-    let mut k: usize = 0;
-    while k < n {
+    for k in 0..n {
         let a = lo[k];
         let b = hi[k];
         length += record_length(a, b);
-        k += 1;
     }
     length
 }
@@ -74,13 +72,11 @@ fn put_records(out: &mut [u8], lo: &[i32], hi: &[i32], n: usize)
     ensures { out.new ≡ records (view n lo.now hi.now) ++ drop (records_length (view n lo.now hi.now)) out.old }
 {
     let mut p: usize = 0;
-    let mut k: usize = 0;
-    while k < n {
+    for k in 0..n {
         let a = lo[k];
         let b = hi[k];
         put_record(&mut out[p..], a, b);
         p += record_length(a, b);
-        k += 1;
     }
 }
 

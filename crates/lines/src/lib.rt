@@ -43,10 +43,8 @@ fn put_each(out: &mut [u8], at: usize, bytes: &[u8]) -> usize
     ensures next { result ≡ at + length (spaced bytes.now) }
 {
     let mut p = at;
-    let mut i = 0;
-    while i < bytes.len() {
-        p = put_next(out, p, bytes[i] as u32);
-        i += 1;
+    for b in bytes {
+        p = put_next(out, p, u32::from(*b));
     }
     p
 }

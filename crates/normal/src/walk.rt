@@ -27,8 +27,7 @@ fn any_of(t: &[u8], from: usize, n: usize, left: usize, lo: &mut [i32], hi: &mut
     ensures { GatheredAll t.now from n left lo.old hi.old lo.new hi.new result }
 {
     let mut s = from;
-    let mut more = n;
-    while 0 < more {
+    for _ in 0..n {
         let p = s % ONE_MORE;
         let kind = t[p];
         if kind < LIST {
@@ -42,7 +41,6 @@ fn any_of(t: &[u8], from: usize, n: usize, left: usize, lo: &mut [i32], hi: &mut
         } else {
             s = set_of(t, s, left, lo, hi);
         }
-        more -= 1;
     }
     s
 }

@@ -52,8 +52,7 @@ fn read_integers(s: &[u8], at: usize, n: usize) -> List
 {
     let mut xs = [0i32; 32];
     let mut p = at;
-    let mut i = 0;
-    while i < n {
+    for i in 0..n {
         let code = record_fault(s, p, SINGLE, SINGLE_SIZE);
         if code != DONE {
             return List {
@@ -66,7 +65,6 @@ fn read_integers(s: &[u8], at: usize, n: usize) -> List
         let x = int_at(s, p + 1);
         xs[i] = x;
         p += SINGLE_SIZE;
-        i += 1;
     }
     List {
         code: DONE,
