@@ -20,13 +20,10 @@ fn spares_of(w: &[u8]) -> u64
     ensures { SparesOf w.now (length w.now) result }
 {
     let mut spares: u64 = 0;
-    let mut e: usize = 0;
-    while e < w.len() {
-        let x = w[e];
-        if x == SPARE {
+    for (e, x) in w.iter().enumerate() {
+        if *x == SPARE {
             spares = with_place(spares, e);
         }
-        e += 1;
     }
     spares
 }
@@ -35,15 +32,7 @@ fn spares_of(w: &[u8]) -> u64
 pub fn none_spare(w: &[u8]) -> bool
     ensures { result ≡ eqb (cnt 255 w.now) 0 }
 {
-    let mut e: usize = 0;
-    while e < w.len() {
-        let x = w[e];
-        if x == SPARE {
-            return false;
-        }
-        e += 1;
-    }
-    true
+    !w.contains(&SPARE)
 }
 
 // Whether w is a cut by the first `count` blocks of as many elements as it has bytes, where any member may take any element.
@@ -53,12 +42,9 @@ pub fn cut_passes(blocks: &[u32; 32], count: usize, w: &[u8]) -> bool
 {
     let spares = spares_of(w);
     let mut reach = reach::start();
-    let mut j = 0;
-    while j < count {
+    for j in 0..count {
         let b = block_at(blocks, j);
-        let next = reach::extend(b, reach, spares, w);
-        reach = next;
-        j += 1;
+        reach = reach::extend(b, reach, spares, w);
     }
     has_place(reach, w.len())
 }

@@ -7,7 +7,7 @@ ghost use Rattle.judging.specs.Reach.{any_pair, SparesOf, Reached, Fresh, Group,
 
 use blocks::{Block, is_one};
 use format::SPARE;
-use masks::{has, lesser, span, with, with_place};
+use masks::{has, span, with, with_place};
 use place_masks::{in_both, in_either, left_out, lowest_place, moved_up};
 
 // Whether x is a member of the block, and is not among the members yet.
@@ -38,7 +38,7 @@ fn last_end(b: Block, from: usize, n: u8) -> usize
     ensures { result ≡ min (from + b.k + b.max) n }
 {
     let most = from + b.k as usize + b.max as usize;
-    lesser(most, n as usize)
+    most.min(n as usize)
 }
 
 // The ends, with `to` where the piece from .. to - 1, in which these members stand, has all members of b and no fewer elements than b asks.
@@ -64,8 +64,7 @@ fn piece_ends(b: Block, all: u32, w: &[u8], from: usize, ends: u64) -> u64
     let furthest = last_end(b, from, w.len() as u8);
     let mut found = ends;
     let mut members: u32 = 0;
-    let mut to = from;
-    while to < furthest {
+    for to in from..furthest {
         found = mark(b, all, members, from, to, found);
         let x = w[to];
         if x != SPARE {
@@ -74,9 +73,8 @@ fn piece_ends(b: Block, all: u32, w: &[u8], from: usize, ends: u64) -> u64
             }
             members = with(members, x);
         }
-        to += 1;
     }
-    mark(b, all, members, from, to, found)
+    mark(b, all, members, from, furthest, found)
 }
 
 // The ends, with the place after `from` where m stands there: what one member and no spare element take.
@@ -109,18 +107,15 @@ fn along_spares(reach: u64, spares: u64, least: u8, most: u8, w: &[u8]) -> u64
         return 0;
     }
     let mut r = reach;
-    let mut done: u8 = 0;
-    while done < least {
+    for _ in 0..least {
         r = one_on(r, spares);
-        done += 1;
     }
-    while done < most {
+    for _ in least..most {
         let more = in_either(r, one_on(r, spares));
         if more == r {
             return r;
         }
         r = more;
-        done += 1;
     }
     r
 }

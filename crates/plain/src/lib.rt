@@ -24,11 +24,8 @@ pub fn is_plain(blocks: &[u32; 32], count: usize) -> bool
     ensures { Passing (Plain count blocks.now) result }
 {
     let mut plain = true;
-    let mut j: usize = 0;
-    while j < count {
-        let number = blocks[j];
-        plain = plain & is_member(number, j);
-        j += 1;
+    for (j, number) in blocks[..count].iter().enumerate() {
+        plain &= is_member(*number, j);
     }
     plain
 }
@@ -39,11 +36,8 @@ pub fn counts_up(w: &[u8], count: usize) -> bool
     ensures { Passing (w.now ≡ up_from 0 count) result }
 {
     let mut up = w.len() == count;
-    let mut e: usize = 0;
-    while e < w.len() {
-        let x = w[e];
-        up = up & (x == e as u8);
-        e += 1;
+    for (e, x) in w.iter().enumerate() {
+        up &= *x == e as u8;
     }
     up
 }

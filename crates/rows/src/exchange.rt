@@ -24,13 +24,11 @@ fn exchange_block(a: &mut [u32; 32], from: usize, j: usize, mask: u32)
     requires { (0 < j) × (from % (2 * j) ≡ 0) × (from + 2 * j ≤ 32) × LowColumns j mask × (length a.old ≡ 32) }
     ensures { Exchanged j (between from (from + 2 * j)) a.old a.new }
 {
-    let mut i = from;
-    while i < from + j {
+    for i in from..from + j {
         let low = a[i];
         let high = a[i + j];
         a[i] = lower_row(low, high, j as u32, mask);
         a[i + j] = upper_row(low, high, j as u32, mask);
-        i += 1;
     }
 }
 
@@ -40,6 +38,7 @@ fn exchange_all(a: &mut [u32; 32], size: usize, j: usize, mask: u32)
     ensures { Exchanged j (between 0 size) a.old a.new }
 {
     let mut k: usize = 0;
+    // no step_by: the requires lets in size 0 with a j whose double does not fit, and step_by asks for the step before the first row
     while k < size {
         exchange_block(a, k, j, mask);
         k += 2 * j;

@@ -25,7 +25,7 @@ fn width(end: u8, to: u8) -> usize
     requires { (end ≤ 32) × (to ≤ 32) }
     ensures { Spans end to result }
 {
-    let last = if end < to { to } else { end };
+    let last = end.max(to);
     if 16 < last {
         return 32;
     }
@@ -41,12 +41,9 @@ fn piece(rows: &[u32; 32], first: u8, k: u8, from: u8, to: u8) -> [u32; 32]
     ensures { Piece rows.now first k from to result }
 {
     let block = span(first, first + k);
-    let end = to as usize;
     let mut r = [0u32; 32];
-    let mut e = from as usize;
-    while e < end {
+    for e in from as usize..to as usize {
         r[e] = rows[e] & block;
-        e += 1;
     }
     r
 }

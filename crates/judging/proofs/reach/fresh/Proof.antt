@@ -4,9 +4,6 @@ use borrow.Author.Rules.{rules}
 use Rattle.judging.proofs.PieceTest.{fresh_low, fresh_high, fresh_any}
 use Rattle.judging.proofs.reach.fresh.Statement.{statement}
 use Rattle.judging.proofs.reach.fresh.Tie as tie
-use Rattle.judging.proofs.reach.fresh.Reads as reads
-use Rattle.judging.proofs.reach.fresh.Lts as lts
-use Rattle.masks.proofs.has.Reads as has-reads
 
 returns : tie.Need-returns-then-x-b
 returns c = λ e. fresh_low c.if-x-b.true

@@ -5,9 +5,6 @@ use borrow.Author.Rules.{rules}
 use Rattle.judging.specs.Reach.{marked, unmarked}
 use Rattle.judging.proofs.reach.mark.Statement.{statement}
 use Rattle.judging.proofs.reach.mark.Tie as tie
-use Rattle.judging.proofs.reach.mark.Reads as reads
-use Rattle.judging.proofs.reach.mark.Lts as lts
-use Rattle.masks.proofs.with_place.Reads as with-place-reads
 
 cast_shortest : tie.Need-overflow_cast-shortest
 cast_shortest c = search rules

@@ -3,9 +3,6 @@ use borrow.Author.Rules.{rules}
 use Rattle.judging.proofs.ReachedPlaces.{reached_start}
 use Rattle.judging.proofs.reach.start.Statement.{statement}
 use Rattle.judging.proofs.reach.start.Tie as tie
-use Rattle.judging.proofs.reach.start.Reads as reads
-use Rattle.judging.proofs.reach.start.Lts as lts
-use Rattle.masks.proofs.with_place.Reads as with-place-reads
 
 with_place_requires : tie.Need-with_place-requires
 with_place_requires c κs = search rules
