@@ -77,6 +77,7 @@ fn mark_hits(rows: &mut [u32; 32], m: u8, elements: u32)
     ensures { Added rows.old m (bit elements) 32 rows.new }
 {
     let mut left = elements;
+    // No `for`: this goes from bit to bit of a mask, and counts nothing.
     while left != 0 {
         let e = lowest(left);
         left = without_lowest(left);
