@@ -98,6 +98,7 @@ fn none_of(
     let mut rest = asked;
     let mut p = at;
     let mut more = n;
+    // No `for`: `more` also goes up, by the members of a list.
     while 0 < more {
         let kind = t[p];
         if kind < LIST {

@@ -218,6 +218,7 @@ fn scan_all(t: &[u8], from: usize, n: usize, left: usize, sort: Sort) -> usize
     let mut s = from;
     let mut more = n;
     let mut depths = left;
+    // No `for`: `more` also goes up, where the last one's members are next.
     while 0 < more {
         let at = s % ONE_MORE;
         let end = head_end(t, at, sort);

@@ -111,8 +111,7 @@ pub fn group_end(
     let mut p = at;
     let mut count = m;
     let mut star: usize = 0;
-    let mut more = n;
-    while 0 < more {
+    for _ in 0..n {
         let here = p;
         p = if sort.word == WHOLE {
             integer_member_end(t, here, count, places)
@@ -131,7 +130,6 @@ pub fn group_end(
         } else {
             count += 1;
         }
-        more -= 1;
     }
     *block = group_block(t, m, count, star);
     p

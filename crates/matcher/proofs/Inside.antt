@@ -4,13 +4,13 @@
 use mathlib.Core.Path.{◌≡◌, refl, sym, ap, ap₂, ◌∙◌}
 use mathlib.Core.Bool.{Bool, true, false, not, ◌&&◌, ◌||◌, cond, and-false, true≢false}
 use mathlib.Core.List.{List, [], ◌∷◌}
-use Prim.Native.Nat.{ℕ, zero, suc, ◌+◌, ◌/◌, ◌%◌, ◌≤◌, ◌<◌}
+use Prim.Native.Nat.{ℕ, ◌/◌, ◌%◌}
 use native.Mathlib.Omega.{arith}
-use lib.IntN.{ℤ, pos}
+use lib.IntN.{ℤ}
 use lib.Ieee.{Float}
-use lib.ListN.{length, get_or, drop, drop_of_length-le}
 use borrow.Author.Tests.{ne_eqb, eqb-true, eqb-false}
 use lib.Dec.{eqb}
+use Rattle.std.specs.List.{list_any}
 use Rattle.facts.proofs.Cases.{by-test, and_left, and_right, not_so}
 use Rattle.format.specs.declared.Family.{Family}
 use Rattle.integers.specs.Integer.{Word, least, greatest, signed, eq_z}
@@ -138,13 +138,8 @@ passed_whole fam t p xs ys lent plan w =
 
 -- ---- the elements, one after another
 
--- the element at k, and those after it
-pub outside_step : (lo hi : ℤ) (xs : List ℤ) (k : ℕ) → k < length xs → some_outside lo hi (drop k xs) ≡ (outside_bounds lo hi (get_or xs k (pos 0)) || some_outside lo hi (drop (k + 1) xs))
+-- whether any element is outside
+pub outside_any : (lo hi : ℤ) (xs : List ℤ) → list_any (outside_bounds lo hi) xs ≡ some_outside lo hi xs
 unfolding some_outside
-outside_step lo hi [] k l = absurd (omega arith)
-outside_step lo hi (x ∷ xs) zero l = refl
-outside_step lo hi (x ∷ xs) (suc k) l = let n : suc k + 1 ≡ suc (k + 1) = omega arith in rw n (outside_step lo hi xs k (omega arith))
-
-pub outside_end : (lo hi : ℤ) (xs : List ℤ) (k : ℕ) → length xs ≤ k → some_outside lo hi (drop k xs) ≡ false
-unfolding some_outside
-outside_end lo hi xs k l = ap (some_outside lo hi) (drop_of_length-le xs {i = k} l)
+outside_any lo hi [] = refl
+outside_any lo hi (x ∷ xs) = ap (λ (b : Bool). outside_bounds lo hi x || b) (outside_any lo hi xs)

@@ -3,11 +3,9 @@
 -- LentLists      == how long the list of a family is, of two of which one is empty
 -- Inside         == the refusals that follow the scan, by the plan
 -- PlannedAnswers == from there to the answers of the entry points
--- Copying        == the witness, byte by byte in front of what the room had
 -- Unique         == each promise allows one result only
 pub mod ByPlan
 pub mod LentLists
 pub mod Inside
 pub mod PlannedAnswers
-mod Copying
 pub mod Unique

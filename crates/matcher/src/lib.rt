@@ -33,15 +33,7 @@ pub fn length_met(low: u8, high: u8, n: usize) -> bool
 fn some_outside(sort: Sort, list: &[i32]) -> bool
     ensures { result ≡ some_outside (lower_of sort) (upper_of sort) list.now }
 {
-    let mut k: usize = 0;
-    while k < list.len() {
-        let x = list[k];
-        if reaches(sort, x, x) {
-            return true;
-        }
-        k += 1;
-    }
-    false
+    list.iter().any(|x| reaches(sort, *x, *x))
 }
 
 // The number by which a list of integers is refused after the scan, or 0: the template's own, or 17 where an element is outside its type.
@@ -62,11 +54,7 @@ fn write_witness(w: [u8; 32], n: usize, room: &mut [u8])
     requires { (n ≤ 32) × (n ≤ length room.old) }
     ensures { Copied n w room.old room.new }
 {
-    let mut i: usize = 0;
-    while i < n {
-        room[i] = w[i];
-        i += 1;
-    }
+    room[..n].copy_from_slice(&w[..n]);
 }
 
 // The number for this list, and on a match the first witness in byte order at the front of the room, one byte for each element; by the plan

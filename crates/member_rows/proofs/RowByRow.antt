@@ -2,14 +2,16 @@
 use mathlib.Core.Path.{◌≡◌, refl, sym, ap, ◌∙◌}
 use mathlib.Core.Bool.{Bool, true, false, ◌&&◌, ◌||◌, or-false, or-true}
 use mathlib.Core.Logic.{⊎_elim}
-use mathlib.Core.List.{List, [], ◌∷◌}
+use mathlib.Core.List.{List, [], ◌∷◌, ◌++◌}
 use Prim.Native.Nat.{ℕ, zero, suc, ◌+◌, ◌≤◌, ◌<◌}
 use native.Mathlib.Omega.{arith}
-use lib.ListN.{length, get_or, take, set, replicate, length-set, get_or-eq_default}
+use lib.ListN.{length, get_or, take, drop, set, replicate, length-set}
 use lib.IntN.{ℤ, pos}
 use lib.Ieee.{Float, nan}
 use lib.Signed.{le_z}
 use lib.Seq.{get_or-set_same, get_or-set_other, set-get_or, get_or-take}
+use borrow.Author.Rules.{rules}
+use Rattle.std.proofs.lemmas.List.{places}
 use mir.Syntax.{w32}
 use mir.Val.{to_z, of_z, SFits}
 use mir.Facts.{to_z-of_z}
@@ -334,30 +336,11 @@ rows_end fam t places members fit xs n rows after all g c es s =
 
 -- ---- the rows after the list
 
-pub record Clearing (n e : ℕ) (before rows : List ℕ) : Type 0 where
-  pub size : length rows ≡ 32
-  pub kept : (m j : ℕ) → j < n → may rows m j ≡ may before m j
-  pub gone : (m j : ℕ) → n ≤ j → j < e → may rows m j ≡ false
-
-pub clearing_start : (n : ℕ) (before : List ℕ) → length before ≡ 32 → Clearing n n before before
-clearing_start n before size = record { size = size; kept = λ m j l. refl; gone = λ m j l u. absurd (omega arith) }
-
-module _ (n e : ℕ) (before rows : List ℕ) (g : Clearing n e before rows) where
-  pub clearing_step : n ≤ e → e < 32 → Clearing n (e + 1) before (set rows e 0)
-  unfolding may
-  clearing_step from low = record {
-    size = length-set rows e 0 ∙ g.size;
-    kept = λ m j l. ap (λ (r : ℕ). bit r m) (get_or-set_other rows e j 0 0 (λ z. omega arith)) ∙ g.kept m j l;
-    gone = λ m j l u. ⊎_elim
-        (λ (z : j ≡ e). rw z (ap (λ (r : ℕ). bit r m) (get_or-set_same rows e 0 0 (omega (arith, g.size))) ∙ bit_none m))
-        (λ (z : j ≡ e → ⊥). ap (λ (r : ℕ). bit r m) (get_or-set_other rows e j 0 0 z) ∙ g.gone m j l (omega arith))
-        (same? j e);
-  }
-
-  pub clearing_end : 32 ≤ e → Cleared n before rows
-  unfolding may
-  clearing_end all = record {
-    size = g.size;
-    kept = g.kept;
-    gone = λ m j l. ⊎_elim (λ (i : j < e). g.gone m j l i) (λ (i : e ≤ j). ap (λ (r : ℕ). bit r m) (get_or-eq_default rows 0 (omega (arith, g.size))) ∙ bit_none m) (below j e);
-  }
+-- the rows from n on were written over with 0
+pub zeros_cleared : (n k : ℕ) (before zeros : List ℕ) → length before ≡ n + k → n + k ≡ 32 → zeros ≡ replicate k 0 → Cleared n before (take n before ++ (zeros ++ drop k (drop n before)))
+unfolding may
+zeros_cleared n k before zeros size all z = rw z (record {
+  size = search (rules, places);
+  kept = λ m j l. ap (λ (r : ℕ). bit r m) (search (rules, places));
+  gone = λ m j l. ap (λ (r : ℕ). bit r m) (⊎_elim (λ (i : j < 32). search (rules, places)) (λ (i : 32 ≤ j). search (rules, places)) (below j 32)) ∙ bit_none m;
+})

@@ -25,12 +25,7 @@ pub fn widened(integers: &[i32]) -> [i32; 32]
     ensures { Widened integers.now result }
 {
     let mut wide = [0i32; 32];
-    let mut e: usize = 0;
-    while e < integers.len() {
-        let x = integers[e];
-        wide[e] = x;
-        e += 1;
-    }
+    wide[..integers.len()].copy_from_slice(integers);
     wide
 }
 
@@ -40,15 +35,13 @@ fn mark_within(rows: &mut [u32; 32], m: u8, wide: &[i32; 32], n: usize, lower: i
     requires { (length rows.old ≡ 32) × (m < 32) × (n ≤ 32) }
     ensures { MarkedWithin rows.old m wide.now lower upper n rows.new }
 {
-    let mut e: usize = 0;
-    while e < n {
+    for e in 0..n {
         let row = rows[e];
         rows[e] = if within(wide[e], lower, upper) {
             with(row, m)
         } else {
             row
         };
-        e += 1;
     }
 }
 
@@ -57,11 +50,9 @@ fn mark_all(rows: &mut [u32; 32], m: u8, n: usize)
     requires { (length rows.old ≡ 32) × (m < 32) × (n ≤ 32) }
     ensures { Added rows.old m (λ e. true) n rows.new }
 {
-    let mut e: usize = 0;
-    while e < n {
+    for e in 0..n {
         let row = rows[e];
         rows[e] = with(row, m);
-        e += 1;
     }
 }
 
@@ -70,15 +61,13 @@ fn mark_floats(rows: &mut [u32; 32], m: u8, floats: &[f64], l: Leaf)
     requires { (length rows.old ≡ 32) × (m < 32) × (length floats.now ≤ 32) }
     ensures { Added rows.old m (λ e. float_matches l (get_or floats.now e nan)) (length floats.now) rows.new }
 {
-    let mut e: usize = 0;
-    while e < floats.len() {
+    for e in 0..floats.len() {
         let row = rows[e];
         rows[e] = if leaf_hit(l, floats[e]) {
             with(row, m)
         } else {
             row
         };
-        e += 1;
     }
 }
 
@@ -88,6 +77,7 @@ fn mark_hits(rows: &mut [u32; 32], m: u8, elements: u32)
     ensures { Added rows.old m (bit elements) 32 rows.new }
 {
     let mut left = elements;
+    // No `for`: this goes from bit to bit of a mask, and counts nothing.
     while left != 0 {
         let e = lowest(left);
         left = without_lowest(left);
@@ -156,11 +146,9 @@ pub fn mark_members(
     requires { (length rows.old ≡ 32) × Served t.now places.now end integers.now floats.now × (first ≤ end) × Widened integers.now wide.now }
     ensures { (f : Family) → Lent f integers.now floats.now → MembersMarked f rows.old t.now places.now first end (list_of f integers.now floats.now) rows.new }
 {
-    let mut m = first;
-    while m < end {
+    for m in first..end {
         let at = places[m] as usize;
         mark(rows, m as u8, t, at, integers, floats, wide);
-        m += 1;
     }
 }
 
@@ -169,11 +157,7 @@ fn clear_after(rows: &mut [u32; 32], n: usize)
     requires { (length rows.old ≡ 32) × (n ≤ 32) }
     ensures { Cleared n rows.old rows.new }
 {
-    let mut e = n;
-    while e < LIST_MOST {
-        rows[e] = 0;
-        e += 1;
-    }
+    rows[n..].fill(0);
 }
 
 // Bit m of row e says whether the member at `places[m]` matches element e of the list.

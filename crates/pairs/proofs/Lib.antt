@@ -2,4 +2,5 @@
 -- ByteByByte == an offered witness gone over byte by byte
 -- Unique     == the promise allows one result only
 mod ByteByByte
+mod Turns
 pub mod Unique

@@ -36,9 +36,7 @@ pub fn left_over(
     ensures { (f : Family) → Lent f integers.now floats.now → (es : List (Elem (LeafOf f))) → Standing f t.now es (take members places.now) → Paired f es (list_of f integers.now floats.now) w.now result }
 {
     let mut left = span(0, members as u8);
-    let mut e: usize = 0;
-    while e < w.len() {
-        let x = w[e];
+    for (e, &x) in w.iter().enumerate() {
         if x != SPARE {
             if MEMBERS_MOST <= x {
                 return WRONG;
@@ -62,7 +60,6 @@ pub fn left_over(
                 return WRONG;
             }
         }
-        e += 1;
     }
     said(left)
 }

@@ -26,8 +26,7 @@ fn items_end(
 {
     let mut p = at;
     let mut m: usize = 0;
-    let mut k: usize = 0;
-    while k < n {
+    for k in 0..n {
         let mut number: u32 = 0;
         p = item_end(t, p, m, sort, places, &mut number);
         if FAULT < p {
@@ -36,7 +35,6 @@ fn items_end(
         blocks[k] = number;
         let b = block_of(number);
         m += b.k as usize;
-        k += 1;
     }
     p + m * ONE_MORE
 }

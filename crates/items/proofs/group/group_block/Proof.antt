@@ -10,9 +10,6 @@ use Rattle.items.specs.Notes.{Says, group_block}
 use borrow.Author.Rules.{rules}
 use Rattle.items.proofs.group.group_block.Statement.{statement}
 use Rattle.items.proofs.group.group_block.Tie as tie
-use Rattle.items.proofs.group.group_block.Reads as reads
-use Rattle.items.proofs.group.group_block.Lts as lts
-use Rattle.blocks.proofs.number_of.Reads as number-of-reads
 
 none_there : (t : List ℕ) (m count at number : ℕ) → at ≡ 0 → Says number (block m (count - m) 0 0) → Says number (group_block t m count at)
 none_there t m count at number z s =

@@ -5,10 +5,6 @@ use Rattle.elements.proofs.TypedRecords.{sort_whole}
 use borrow.Author.Rules.{rules}
 use Rattle.items.proofs.group.integer_member_end.Statement.{statement}
 use Rattle.items.proofs.group.integer_member_end.Tie as tie
-use Rattle.items.proofs.group.integer_member_end.Reads as reads
-use Rattle.items.proofs.group.integer_member_end.Lts as lts
-use Rattle.elements.proofs.integer_head_end.Reads as integer-head-end-reads
-use Rattle.items.proofs.group.numbered_end.Reads as numbered-end-reads
 
 integer_head_end_requires : tie.Need-integer_head_end-end-requires
 integer_head_end_requires c κs = search rules

@@ -12,10 +12,6 @@ use Rattle.sorts.specs.Sorts.{family_of, lower_of, upper_of, leaves_for}
 use borrow.Author.Rules.{rules}
 use Rattle.items.proofs.group.numbered_end.Statement.{statement}
 use Rattle.items.proofs.group.numbered_end.Tie as tie
-use Rattle.items.proofs.group.numbered_end.Reads as reads
-use Rattle.items.proofs.group.numbered_end.Lts as lts
-use Rattle.elements.proofs.refusal.Reads as refusal-reads
-use Rattle.elements.proofs.rest_end.Reads as rest-end-reads
 
 returns : tie.Need-returns-then-end-gt-FAULT
 returns c =

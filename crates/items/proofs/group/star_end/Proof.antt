@@ -5,10 +5,6 @@ use Rattle.items.proofs.MemberPlaces.{stopped_as}
 use borrow.Author.Rules.{rules}
 use Rattle.items.proofs.group.star_end.Statement.{statement}
 use Rattle.items.proofs.group.star_end.Tie as tie
-use Rattle.items.proofs.group.star_end.Reads as reads
-use Rattle.items.proofs.group.star_end.Lts as lts
-use Rattle.elements.proofs.refusal.Reads as refusal-reads
-use Rattle.items.proofs.record.bounds_fault.Reads as bounds-fault-reads
 
 bounds_fault_requires : tie.Need-bounds_fault-code-requires
 bounds_fault_requires c κs = search rules

@@ -11,14 +11,6 @@ use Rattle.sorts.specs.Sorts.{whole, family_of, leaves_for}
 use borrow.Author.Rules.{rules}
 use Rattle.items.proofs.item.item_end.Statement.{statement}
 use Rattle.items.proofs.item.item_end.Tie as tie
-use Rattle.items.proofs.item.item_end.Reads as reads
-use Rattle.items.proofs.item.item_end.Lts as lts
-use Rattle.blocks.proofs.number_of.Reads as number-of-reads
-use Rattle.items.proofs.group.other_member_end.Reads as other-member-end-reads
-use Rattle.items.proofs.group.integer_member_end.Reads as integer-member-end-reads
-use Rattle.items.proofs.item.permutation_end.Reads as permutation-end-reads
-use Rattle.items.proofs.item.spares_end.Reads as spares-end-reads
-use Rattle.items.proofs.record.kind_at.Reads as kind-at-reads
 
 kind_at_requires : tie.Need-kind_at-kind-requires
 kind_at_requires c κs = search rules

@@ -10,11 +10,6 @@ use Rattle.sorts.specs.Sorts.{family_of, lower_of, upper_of, leaves_for}
 use borrow.Author.Rules.{rules}
 use Rattle.items.proofs.item.permutation_end.Statement.{statement}
 use Rattle.items.proofs.item.permutation_end.Tie as tie
-use Rattle.items.proofs.item.permutation_end.Reads as reads
-use Rattle.items.proofs.item.permutation_end.Lts as lts
-use Rattle.elements.proofs.count_fault.Reads as count-fault-reads
-use Rattle.elements.proofs.refusal.Reads as refusal-reads
-use Rattle.items.proofs.group.group_end.Reads as group-end-reads
 
 count_fault_requires : tie.Need-count_fault-code-requires
 count_fault_requires c κs = search rules

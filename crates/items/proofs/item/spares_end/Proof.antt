@@ -7,10 +7,6 @@ use Rattle.items.proofs.Items.{spares_item}
 use borrow.Author.Rules.{rules}
 use Rattle.items.proofs.item.spares_end.Statement.{statement}
 use Rattle.items.proofs.item.spares_end.Tie as tie
-use Rattle.items.proofs.item.spares_end.Reads as reads
-use Rattle.items.proofs.item.spares_end.Lts as lts
-use Rattle.blocks.proofs.number_of.Reads as number-of-reads
-use Rattle.items.proofs.group.star_end.Reads as star-end-reads
 
 star_end_requires : tie.Need-star_end-end-requires
 star_end_requires c κs = search rules

@@ -4,9 +4,6 @@ use Rattle.items.proofs.ItemRecords.{bounds_short, bounds_bad, bounds_right}
 use borrow.Author.Rules.{rules}
 use Rattle.items.proofs.record.bounds_fault.Statement.{statement}
 use Rattle.items.proofs.record.bounds_fault.Tie as tie
-use Rattle.items.proofs.record.bounds_fault.Reads as reads
-use Rattle.items.proofs.record.bounds_fault.Lts as lts
-use Rattle.format.proofs.bad_bounds.Reads as bad-bounds-reads
 
 sub_if1 : tie.Need-overflow_sub-t
 sub_if1 c = search rules

@@ -2,13 +2,11 @@
 use mathlib.Core.Path.{sym, ap}
 use mathlib.Core.List.{List}
 use Prim.Native.Nat.{ℕ}
-use lib.ListN.{get_or, drop, drop_of_length-le}
+use lib.ListN.{get_or, drop_of_length-le}
 use Rattle.grammar.proofs.RecordParts.{kind_at}
 use borrow.Author.Rules.{rules}
 use Rattle.items.proofs.record.kind_at.Statement.{statement}
 use Rattle.items.proofs.record.kind_at.Tie as tie
-use Rattle.items.proofs.record.kind_at.Reads as reads
-use Rattle.items.proofs.record.kind_at.Lts as lts
 
 shared_slice_read_result : tie.Need-bounds-t-at
 shared_slice_read_result c = search rules
