@@ -8,7 +8,7 @@ ghost use Rattle.ranges.specs.Shown.{view, Few};
 ghost use Rattle.forms.specs.Form.{record_of, records, matched_form, unmatched_form, record_length, records_length, matched_length, unmatched_length, side_form, side_length};
 
 use format::{ANY, ANY_SIZE, COMPLEMENT, COUNT_SIZE, LIST, RANGE, RANGE_SIZE, SINGLE, SINGLE_SIZE};
-use integers::put_int;
+use integers::{put_int, same};
 
 // The record of one integer, at the front of `out`.
 fn put_single(out: &mut [u8], x: i32)
@@ -33,7 +33,7 @@ fn put_range(out: &mut [u8], lower: i32, upper: i32)
 fn record_length(lower: i32, upper: i32) -> usize
     ensures { result ≡ record_length (span lower upper) }
 {
-    if lower == upper {
+    if same(lower, upper) {
         SINGLE_SIZE
     } else {
         RANGE_SIZE
@@ -45,7 +45,7 @@ fn put_record(out: &mut [u8], lower: i32, upper: i32)
     requires { record_length (span lower upper) ≤ length out.old }
     ensures { out.new ≡ record_of (span lower upper) ++ drop (record_length (span lower upper)) out.old }
 {
-    if lower == upper {
+    if same(lower, upper) {
         put_single(out, lower);
     } else {
         put_range(out, lower, upper);

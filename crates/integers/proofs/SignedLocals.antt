@@ -1,6 +1,6 @@
 -- A signed local of the code holds bits: b of them are the integer `to_z w32 b`, and an integer z that is stored and read again is
 -- `to_z w32 (of_z w32 z)`. Tests of them, and their neighbours. Assumes nothing.
-use Prim.Native.Nat.{ℕ, ◌+◌, ◌≤◌, ◌<◌}
+use Prim.Native.Nat.{ℕ, ◌+◌, ◌-◌, ◌≤◌, ◌<◌}
 use native.Mathlib.Omega.{arith}
 use mathlib.Core.Path.{◌≡◌, sym, ap, ◌∙◌}
 use mathlib.Core.Bool.{Bool, true, false}

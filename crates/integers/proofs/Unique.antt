@@ -11,6 +11,8 @@ use Rattle.integers.proofs.join_bytes.Reads as join-bytes
 use Rattle.integers.proofs.join_bytes.Kinds as join-bytes-kinds
 use Rattle.integers.proofs.put_int.Reads as put-int
 use Rattle.integers.proofs.put_int.Kinds as put-int-kinds
+use Rattle.integers.proofs.same.Reads as same
+use Rattle.integers.proofs.same.Kinds as same-kinds
 use Rattle.integers.proofs.to_bits.Reads as to_bits
 use Rattle.integers.proofs.to_bits.Kinds as to-bits-kinds
 use Rattle.integers.proofs.to_signed.Reads as to-signed
@@ -30,6 +32,10 @@ int_at_unique κs a r r' s s' p q = p ∙ sym q
 pub put_int_unique : (κs : Lfts 1) (a : Dens κs put-int-kinds.ps) (r r' : (res_t put-int-kinds.r κs).Denot) (s s' : AtExit (ended_of 1 put-int-kinds.ps put-int-kinds.r) κs)
     → put-int.Post κs a r s → put-int.Post κs a r' s' → s.0.now ≡ s'.0.now
 put_int_unique κs a r r' s s' p q = p ∙ sym q
+
+pub same_unique : (κs : Lfts 0) (a : Dens κs same-kinds.ps) (r r' : (res_t same-kinds.r κs).Denot) (s s' : AtExit (ended_of 0 same-kinds.ps same-kinds.r) κs)
+    → same.Post κs a r s → same.Post κs a r' s' → r ≡ r'
+same_unique κs a r r' s s' p q = p ∙ sym q
 
 pub within_unique : (κs : Lfts 0) (a : Dens κs within-kinds.ps) (r r' : (res_t within-kinds.r κs).Denot) (s s' : AtExit (ended_of 0 within-kinds.ps within-kinds.r) κs)
     → within.Post κs a r s → within.Post κs a r' s' → r ≡ r'

@@ -3,7 +3,7 @@
 
 ghost use Rattle.std.specs.Prelude.{◌≡◌, ◌&&◌, ◌++◌, ◌+◌, ◌≤◌, length, drop};
 ghost use Rattle.std.specs.Int.Signed.{le_z};
-ghost use Rattle.integers.specs.Integer.{joined, signed, bits_at, int_at, bits, int_bytes};
+ghost use Rattle.integers.specs.Integer.{joined, signed, bits_at, int_at, bits, int_bytes, eq_z};
 
 use format::LEAST;
 
@@ -62,6 +62,13 @@ pub fn put_int(out: &mut [u8], x: i32)
     out[1] = ((u >> 8) % 256) as u8;
     out[2] = ((u >> 16) % 256) as u8;
     out[3] = ((u >> 24) % 256) as u8;
+}
+
+// Whether a is b.
+pub fn same(a: i32, b: i32) -> bool
+    ensures { result ≡ eq_z a b }
+{
+    a == b
 }
 
 // Whether x lies between the bounds, both ends included.

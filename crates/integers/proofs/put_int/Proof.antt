@@ -9,6 +9,9 @@ use mathlib.Core.Path.{◌≡◌, refl, ap, ◌∙◌}
 use Rattle.integers.specs.Integer.{bits, int_bytes, four_bytes}
 use Rattle.integers.proofs.put_int.Statement.{statement}
 use Rattle.integers.proofs.put_int.Tie as tie
+use Rattle.integers.proofs.put_int.Reads as reads
+use Rattle.integers.proofs.put_int.Lts as lts
+use Rattle.integers.proofs.to_bits.Reads as to-bits-reads
 
 four_set : (l : List ℕ) (a b c d : ℕ) → 4 ≤ length l → set (set (set (set l 0 a) 1 b) 2 c) 3 d ≡ a ∷ b ∷ c ∷ d ∷ drop 4 l
 four_set [] a b c d p = absurd (omega arith)
