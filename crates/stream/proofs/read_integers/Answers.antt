@@ -5,7 +5,7 @@ use Rattle.stream.proofs.Lists.{reading_stop, reading_fits, reading_step, readin
 use Rattle.stream.proofs.read_integers.Goals as goal
 
 pub returns-then-code-ne-DONE : goal.returns-then-code-ne-DONE
-returns-then-code-ne-DONE c = reading_stop _ _ _ _ _ _ c.loop-i.invariant c.loop-i-test.true _ c.record_fault-code.ensures c.if-code-ne-DONE.true
+returns-then-code-ne-DONE c = (omega arith, reading_stop _ _ _ _ _ _ c.loop-i.invariant c.loop-i-test.true _ c.record_fault-code.ensures c.if-code-ne-DONE.true)
 
 pub int_at-x-requires : goal.int_at-x-requires
 int_at-x-requires c = omega (arith, reading_fits _ _ _ _ _ _ c.loop-i.invariant (sym c.record_fault-code.ensures ∙ c.if-code-ne-DONE.false))
