@@ -4,7 +4,7 @@ use Rattle.std.specs.Prelude.{Result, Ok, Err, MatchResult}
 use Rattle.grammar.specs.Read.{Read}
 use Rattle.stream.specs.Contract.{zeros, Listed}
 use Rattle.stream.specs.declared.List.{List as ListResult}
-use Rattle.stream.proofs.Lists.{listed_faulty, listed_fits, listed_few, listed_right}
+use Rattle.stream.proofs.Lists.{faulted, listed_faulty, listed_fits, listed_few, listed_right}
 use Rattle.stream.proofs.read_list.Goals as goal
 
 -- what is read as o is read as p too
@@ -15,7 +15,7 @@ read_as t o p (Ok l) h x = h _ _ _ _ x
 read_as t o p (Err e) h x = (x.0, h _ _ _ _ x.1)
 
 pub returns-then-code-ne-DONE : goal.returns-then-code-ne-DONE
-returns-then-code-ne-DONE c = (omega arith, listed_faulty _ _ c.requires c.list_fault-code.result c.list_fault-code.ensures c.if-code-ne-DONE.true)
+returns-then-code-ne-DONE c = faulted _ _ _ c.if-code-ne-DONE.true (listed_faulty _ _ c.requires c.list_fault-code.result c.list_fault-code.ensures c.if-code-ne-DONE.true)
 
 pub bounds-s-at : goal.bounds-s-at
 bounds-s-at c = omega (arith, listed_fits _ _ c.requires c.list_fault-code.result c.list_fault-code.ensures c.if-code-ne-DONE.false)
