@@ -108,15 +108,17 @@ pub fn answer_next(
             more: false,
         };
     }
-    let list = read_list(input, at);
-    if list.code != DONE {
-        let wrote = put_line(out, number, list.code, 0, &input[..0]);
-        return Progress {
-            wrote,
-            next: at,
-            more: false,
-        };
-    }
+    let list = match read_list(input, at) {
+        Ok(list) => list,
+        Err(code) => {
+            let wrote = put_line(out, number, code, 0, &input[..0]);
+            return Progress {
+                wrote,
+                next: at,
+                more: false,
+            };
+        }
+    };
     let n = list.n;
     let xs = list.xs;
     let wrote = put_answer(template, plan, &xs[..n], number, out);

@@ -197,8 +197,3 @@ module _ (lo hi : ℤ) (t : List ℕ) (los his los' his' : List ℤ) (found outs
   pub read_held : Word lo → FormRead lo hi t los his los' his' found outside n → found ≡ true → length los ≡ 65 → length his ≡ 65 → Held n los' his'
   read_held p (reads_as_form e a b c w) f g h = record { size_low = a ∙ g; size_high = b ∙ h; few = c; ascending = between_ascending lo hi p (view n los' his') w.between }
   read_held p (no_form e x y a b w) f g h = absurd (clash f e)
-
--- one of two was not
-pub not_both_forms : (lo hi : ℤ) (s t : List ℕ) (i j : Bool) → (i ≡ false → NoForm lo hi s) → (j ≡ false → NoForm lo hi t) → (i && j) ≡ false → (NoForm lo hi s → ⊥) → NoForm lo hi t
-not_both_forms lo hi s t true j f g e k = g e
-not_both_forms lo hi s t false j f g e k = absurd (k (f refl))

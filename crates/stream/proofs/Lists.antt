@@ -145,6 +145,10 @@ module _ (t : List ℕ) (at n : ℕ) where
         append_none [] = refl
         append_none (x ∷ l) = ap (λ (r : List ℤ). x ∷ r) (append_none l)
 
+-- what a function says of a fault
+pub faulted : (t : List ℕ) (o : Read (List ℤ)) (code : ℕ) → (code ≡ 0 → ⊥) → Listed t o code 0 0 (zeros 32) → (0 < code) × Listed t o code 0 0 (zeros 32)
+faulted t o code bad l = (omega arith, l)
+
 -- ---- the record 40
 
 module _ (t : List ℕ) (at : ℕ) (r : ℕ) (known : r ≡ record_fault 0x40 2 (drop at t)) where

@@ -1,7 +1,7 @@
 -- Each public function's promise allows one result only, stated of the contract itself. Assumes nothing.
 use mathlib.Core.Path.{◌≡◌, sym, ap, ap₂, ◌∙◌}
 use mathlib.Core.List.{List, ◌++◌}
-use Prim.Native.Nat.{ℕ, ◌-◌, ◌≤◌}
+use Prim.Native.Nat.{ℕ, ◌-◌, ◌≤◌, ◌<◌}
 use native.Mathlib.Omega.{arith}
 use lib.ListN.{length, take, drop, take-append-drop}
 use lib.Seq.{length-take-le}
@@ -9,6 +9,7 @@ use lib.IntN.{ℤ}
 use borrow.Fn.Kinds.{Dens, res_t, ended_of}
 use contract.Lifetimes.{Lfts}
 use denote.Triple.Clauses.{AtExit}
+use Rattle.std.specs.Prelude.{Result, Ok, Err, MatchResult}
 use Rattle.grammar.specs.Read.{Read, refuse, got}
 use Rattle.grammar.proofs.ReadApart.{clash}
 use Rattle.stream.specs.Contract.{zeros, Listed, faulty, read}
@@ -31,11 +32,11 @@ template_end_unique κs a r r' s s' p q = p ∙ sym q
 
 -- ---- what was read as a list
 
-abbrev made : ℕ → ℕ → ℕ → List ℤ → ListResult
-made code n next xs = record { code = code; n = n; next = next; xs = xs }
+abbrev made : ℕ → ℕ → List ℤ → ListResult
+made n next xs = record { n = n; next = next; xs = xs }
 
-made_same : (code code' n n' next next' : ℕ) (xs xs' : List ℤ) → code ≡ code' → n ≡ n' → next ≡ next' → xs ≡ xs' → made code n next xs ≡ made code' n' next' xs'
-made_same code code' n n' next next' xs xs' p q u e = ap₂ (λ (c m : ℕ). made c m next xs) p q ∙ ap₂ (λ (v : ℕ) (l : List ℤ). made code' n' v l) u e
+made_same : (n n' next next' : ℕ) (xs xs' : List ℤ) → n ≡ n' → next ≡ next' → xs ≡ xs' → made n next xs ≡ made n' next' xs'
+made_same n n' next next' xs xs' q u e = ap (λ (m : ℕ). made m next xs) q ∙ ap₂ (λ (v : ℕ) (l : List ℤ). made n' v l) u e
 
 refusal_same : (o : Read (List ℤ)) (r r' : ℕ) → o ≡ refuse r → o ≡ refuse r' → r ≡ r'
 refusal_same o r r' p q = cc
@@ -58,16 +59,24 @@ module _ (n n' : ℕ) (xs xs' : List ℤ) (few : n ≤ 32) (few' : n' ≤ 32) (s
       ∙ take-append-drop n' xs'
 
 pub listed_unique : (t : List ℕ) (o : Read (List ℤ)) (code code' n n' next next' : ℕ) (xs xs' : List ℤ)
-    → Listed t o code n next xs → Listed t o code' n' next' xs' → made code n next xs ≡ made code' n' next' xs'
+    → Listed t o code n next xs → Listed t o code' n' next' xs' → (code ≡ code') × (made n next xs ≡ made n' next' xs')
 listed_unique t o code code' n n' next next' xs xs' (faulty q p m w b) (faulty q' p' m' w' b') =
-    made_same code code' n n' next next' xs xs' (refusal_same o code code' q q') (m ∙ sym m') (w ∙ sym w') (b ∙ sym b')
+    (refusal_same o code code' q q', made_same n n' next next' xs xs' (m ∙ sym m') (w ∙ sym w') (b ∙ sym b'))
 listed_unique t o code code' n n' next next' xs xs' (faulty q p m w b) (read q' z' f' i' l' b') = absurd (clash (sym q ∙ q'))
 listed_unique t o code code' n n' next next' xs xs' (read q z f i l b) (faulty q' p' m' w' b') = absurd (clash (sym q' ∙ q))
 listed_unique t o code code' n n' next next' xs xs' (read q z f i l b) (read q' z' f' i' l' b') =
     let e = got_same o (take n xs) (take n' xs') (drop next t) (drop next' t) q q' in
-    made_same code code' n n' next next' xs xs' (z ∙ sym z') (count_same n n' xs xs' f f' l l' e.0) (same_place t next next' i i' e.1) (integers_same n n' xs xs' f f' l l' e.0 b b')
+    (z ∙ sym z', made_same n n' next next' xs xs' (count_same n n' xs xs' f f' l l' e.0) (same_place t next next' i i' e.1) (integers_same n n' xs xs' f f' l l' e.0 b b'))
+
+result_unique : (t : List ℕ) (o : Read (List ℤ)) (r r' : Result ListResult ℕ)
+    → MatchResult r (λ l. Listed t o 0 l.n l.next l.xs) (λ code. (0 < code) × Listed t o code 0 0 (zeros 32))
+    → MatchResult r' (λ l. Listed t o 0 l.n l.next l.xs) (λ code. (0 < code) × Listed t o code 0 0 (zeros 32)) → r ≡ r'
+result_unique t o (Ok l) (Ok l') p q = ap Ok (listed_unique _ _ _ _ _ _ _ _ _ _ p q).1
+result_unique t o (Ok l) (Err e) p q = let z = (listed_unique _ _ _ _ _ _ _ _ _ _ p q.1).0 in absurd (omega (arith, q.0, z))
+result_unique t o (Err e) (Ok l) p q = let z = (listed_unique _ _ _ _ _ _ _ _ _ _ p.1 q).0 in absurd (omega (arith, p.0, z))
+result_unique t o (Err e) (Err e') p q = ap Err (listed_unique _ _ _ _ _ _ _ _ _ _ p.1 q.1).0
 
 -- the fault, the count, the place and all 32 integers
 pub read_list_unique : (κs : Lfts 1) (a : Dens κs read-list-kinds.ps) (r r' : (res_t read-list-kinds.r κs).Denot) (s s' : AtExit (ended_of 1 read-list-kinds.ps read-list-kinds.r) κs)
     → read-list.Post κs a r s → read-list.Post κs a r' s' → r ≡ r'
-read_list_unique κs a r r' s s' p q = listed_unique _ _ _ _ _ _ _ _ _ _ p q
+read_list_unique κs a r r' s s' p q = result_unique _ _ _ _ p q

@@ -3,12 +3,6 @@ use Rattle.intake_lines.proofs.Headers.{header_over, header_fault, header_long, 
 use borrow.Author.Rules.{rules}
 use Rattle.intake_lines.proofs.input_plan.Statement.{statement}
 use Rattle.intake_lines.proofs.input_plan.Tie as tie
-use Rattle.intake_lines.proofs.input_plan.Reads as reads
-use Rattle.intake_lines.proofs.input_plan.Lts as lts
-use Rattle.stream.proofs.record_fault.Reads as record-fault-reads
-use Rattle.stream.proofs.template_end.Reads as template-end-reads
-use Rattle.template.proofs.no_plan.Reads as no-plan-reads
-use Rattle.template.proofs.plan_of.Reads as plan-of-reads
 
 no_plan_requires : tie.Need-no_plan-requires
 no_plan_requires c κs = search rules

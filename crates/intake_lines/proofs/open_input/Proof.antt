@@ -4,11 +4,6 @@ use Rattle.intake_lines.proofs.Headers.{headed_refused, headed_long, headed_foun
 use borrow.Author.Rules.{rules}
 use Rattle.intake_lines.proofs.open_input.Statement.{statement}
 use Rattle.intake_lines.proofs.open_input.Tie as tie
-use Rattle.intake_lines.proofs.open_input.Reads as reads
-use Rattle.intake_lines.proofs.open_input.Lts as lts
-use Rattle.intake_lines.proofs.input_plan.Reads as input-plan-reads
-use Rattle.lines.proofs.put_line.Reads as put-line-reads
-use Rattle.stream.proofs.template_end.Reads as template-end-reads
 
 input_plan_requires : tie.Need-input_plan-plan-requires
 input_plan_requires c κs = search rules
