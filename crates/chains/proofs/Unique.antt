@@ -1,7 +1,7 @@
 -- The contract of `spare_places` allows one result, and that of `explore` one answer, and where it is no, one set of places. Stated of the contracts themselves, as
 -- the check reads them. Assumes nothing.
 use mathlib.Core.Path.{◌≡◌, refl, sym, ap, ◌∙◌}
-use mathlib.Core.Logic.{◌⊎◌, ⊎_elim}
+use mathlib.Core.Logic.{⊎_elim}
 use mathlib.Core.Bool.{Bool, true, false, not, ◌&&◌}
 use mathlib.Core.List.{List}
 use Prim.Native.Nat.{ℕ}

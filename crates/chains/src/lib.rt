@@ -16,12 +16,10 @@ pub fn spare_places(w: [u8; 32], from: u8, to: u8) -> u32
     ensures { Spares w from to (bit result) }
 {
     let mut free: u32 = 0;
-    let mut e = from;
-    while e < to {
+    for e in from..to {
         if w[e as usize] >= MEMBERS_MOST {
             free = with(free, e);
         }
-        e += 1;
     }
     free
 }

@@ -20,8 +20,8 @@ fn spares_of(w: &[u8]) -> u64
     ensures { SparesOf w.now (length w.now) result }
 {
     let mut spares: u64 = 0;
-    for (e, x) in w.iter().enumerate() {
-        if *x == SPARE {
+    for (e, &x) in w.iter().enumerate() {
+        if x == SPARE {
             spares = with_place(spares, e);
         }
     }

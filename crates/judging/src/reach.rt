@@ -62,10 +62,9 @@ fn piece_ends(b: Block, all: u32, w: &[u8], from: usize, ends: u64) -> u64
     ensures { Ends any_pair b from (length w.now + 1) w.now ends result }
 {
     let furthest = last_end(b, from, w.len() as u8);
-    let mut found = ends;
     let mut members: u32 = 0;
+    let mut found = mark(b, all, members, from, from, ends);
     for to in from..furthest {
-        found = mark(b, all, members, from, to, found);
         let x = w[to];
         if x != SPARE {
             if !fresh(b, members, x) {
@@ -73,8 +72,9 @@ fn piece_ends(b: Block, all: u32, w: &[u8], from: usize, ends: u64) -> u64
             }
             members = with(members, x);
         }
+        found = mark(b, all, members, from, to + 1, found);
     }
-    mark(b, all, members, from, furthest, found)
+    found
 }
 
 // The ends, with the place after `from` where m stands there: what one member and no spare element take.

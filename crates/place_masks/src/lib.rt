@@ -6,8 +6,6 @@ ghost use Rattle.std.specs.Prelude.{◌≡◌, ◌&&◌, ◌||◌, not, ℕ, ◌
 ghost use Rattle.masks.specs.Masks.{bit, Lowest, Highest};
 ghost use Rattle.place_masks.specs.Places.{Before, After};
 
-use masks::lesser;
-
 // Every place below 64.
 const EVERYWHERE: u64 = 0xffff_ffff_ffff_ffff;
 
@@ -112,7 +110,7 @@ fn spread_down(places: u64, more: usize) -> u64
     let mut r = places;
     let mut done: usize = 0;
     while done < more {
-        let s = lesser(done + 1, more - done);
+        let s = (done + 1).min(more - done);
         r = in_either(r, moved_down(r, s));
         done += s;
     }
@@ -127,7 +125,7 @@ fn spread_up(places: u64, more: usize) -> u64
     let mut r = places;
     let mut done: usize = 0;
     while done < more {
-        let s = lesser(done + 1, more - done);
+        let s = (done + 1).min(more - done);
         r = in_either(r, moved_up(r, s));
         done += s;
     }

@@ -24,8 +24,8 @@ pub fn is_plain(blocks: &[u32; 32], count: usize) -> bool
     ensures { Passing (Plain count blocks.now) result }
 {
     let mut plain = true;
-    for (j, number) in blocks[..count].iter().enumerate() {
-        plain &= is_member(*number, j);
+    for (j, &number) in blocks[..count].iter().enumerate() {
+        plain &= is_member(number, j);
     }
     plain
 }
@@ -36,8 +36,8 @@ pub fn counts_up(w: &[u8], count: usize) -> bool
     ensures { Passing (w.now ≡ up_from 0 count) result }
 {
     let mut up = w.len() == count;
-    for (e, x) in w.iter().enumerate() {
-        up &= *x == e as u8;
+    for (e, &x) in w.iter().enumerate() {
+        up &= x == e as u8;
     }
     up
 }

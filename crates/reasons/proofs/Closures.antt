@@ -5,7 +5,7 @@
 -- closure_reason: so the least closed group around them is the reason. grown_reason: what `grown` makes of a widest assignment.
 -- most_shortfall: the greatest shortfall is the number of members that wait.
 use mathlib.Core.Path.{◌≡◌, refl, sym, ap, ◌∙◌, subst}
-use mathlib.Core.Logic.{◌⊎◌, ⊎_elim}
+use mathlib.Core.Logic.{⊎_elim}
 use mathlib.Core.Bool.{Bool, true, false, ◌&&◌, not}
 use mathlib.Core.List.{List}
 use Prim.Native.Nat.{ℕ, zero, suc, ◌+◌, ◌≤◌, ◌<◌}

@@ -21,15 +21,13 @@ fn swept(rows: &[u32; 32], w: [u8; 32], n: u8, group: u32) -> u32
     ensures { Swept (may rows.now) n w group result }
 {
     let mut r = group;
-    let mut e: u8 = 0;
-    while e < n {
+    for e in 0..n {
         let owner = w[e as usize];
         if owner < MEMBERS_MOST {
             if meets(rows[e as usize], r) {
                 r = with(r, owner);
             }
         }
-        e += 1;
     }
     r
 }
@@ -55,12 +53,10 @@ fn joined(rows: &[u32; 32], n: u8, group: u32) -> u32
     ensures { (e : ℕ) → bit result e ≡ (between 0 n e && wanted (may rows.now) (bit group) e) }
 {
     let mut r: u32 = 0;
-    let mut e: u8 = 0;
-    while e < n {
+    for e in 0..n {
         if meets(rows[e as usize], group) {
             r = with(r, e);
         }
-        e += 1;
     }
     r
 }

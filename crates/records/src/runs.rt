@@ -6,7 +6,6 @@ ghost use Rattle.records.specs.Runs.{joinable, in_one, RunsJoined};
 
 use blocks::{Block, block_of, number_of};
 use format::LIST_MOST;
-use masks::lesser;
 
 // The number of a block with a member: no run goes on from it.
 const NO_RUN: u32 = 256;
@@ -24,7 +23,7 @@ fn joins(before: u32, number: u32) -> bool
 fn together(x: u8, y: u8) -> u8
     ensures { result ≡ min (x + y) 33 }
 {
-    lesser(x as usize + y as usize, LIST_MOST + 1) as u8
+    (x as usize + y as usize).min(LIST_MOST + 1) as u8
 }
 
 // The number of that 20.
@@ -50,9 +49,7 @@ pub fn join_runs(blocks: &[u32; 32], count: usize, joined: &mut [u32; 32]) -> us
 {
     let mut r: usize = 0;
     let mut before = NO_RUN;
-    let mut j: usize = 0;
-    while j < count {
-        let number = blocks[j];
+    for &number in &blocks[..count] {
         if joins(before, number) {
             before = in_one(before, number);
             joined[r - 1] = before;
@@ -61,7 +58,6 @@ pub fn join_runs(blocks: &[u32; 32], count: usize, joined: &mut [u32; 32]) -> us
             joined[r] = number;
             r += 1;
         }
-        j += 1;
     }
     r
 }

@@ -2,7 +2,7 @@
 -- open-*: the members that stand nowhere before e, as e goes on. rivals_sound, rivals_going: of them, those that may take e and are below its byte are the rivals, and all. leads_last: the last place has none.
 -- holders-*: the members that hold places, one by one. moves_spare, moves_held: what an exploration shows. candidates_all, candidates_reached: so who can have e.
 use mathlib.Core.Path.{◌≡◌, refl, sym, ap, ◌∙◌, subst}
-use mathlib.Core.Logic.{◌⊎◌, inl, inr, ⊎_elim}
+use mathlib.Core.Logic.{inl, inr, ⊎_elim}
 use mathlib.Core.Bool.{Bool, true, false, not, ◌&&◌}
 use mathlib.Core.List.{List}
 use Prim.Native.Nat.{ℕ, ◌+◌, ◌≤◌, ◌<◌, min}

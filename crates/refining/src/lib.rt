@@ -12,14 +12,14 @@ ghost use Rattle.refining.specs.Refine.{Later, Next, Standing, Candidates, Excha
 
 use chains::{explore, settle, spare_places};
 use format::{MEMBERS_MOST, SPARE};
-use masks::{below, flip, lesser_byte, lowest, span, with, without_lowest};
+use masks::{below, flip, lowest, span, with, without_lowest};
 
 // Of the members that are left, those that may take e and are below its byte: who can make the list come earlier.
 fn rivals(rows: &[u32; 32], left: u32, byte: u8, e: u8) -> u32
     requires { e < 32 }
     ensures { (m : ℕ) → bit result m ≡ ((may rows.now m e && bit left m) && between 0 (min byte 32) m) }
 {
-    let bound = below(lesser_byte(byte, MEMBERS_MOST));
+    let bound = below(byte.min(MEMBERS_MOST));
     rows[e as usize] & left & bound
 }
 
@@ -61,11 +61,7 @@ fn place_of(w: &[u8; 32], m: u8, e: u8) -> u8
     requires { Later w.now m e 32 }
     ensures { Next w.now m e result }
 {
-    let mut p = e + 1;
-    while w[p as usize] != m {
-        p += 1;
-    }
-    p
+    (e + 1..32).find(|p| w[*p as usize] == m).unwrap()
 }
 
 // Gives e to m, who has a later place: that place is spare then, and whom e belonged to is served by the places after e. What is spare then.
@@ -119,9 +115,8 @@ pub fn refine(
     let mut free = spare_places(w, from, to);
     // the members that stand nowhere before e
     let mut left = span(first, first + k);
-    let mut e = from;
     // the last element has no place after it to change with
-    while e + 1 < to {
+    for e in from..to.saturating_sub(1) {
         let byte = x[e as usize];
         let wanted = rivals(rows, left, byte, e);
         let after = span(e + 1, to);
@@ -130,7 +125,6 @@ pub fn refine(
         if now < MEMBERS_MOST {
             left = flip(left, now);
         }
-        e += 1;
     }
     x
 }
