@@ -8,6 +8,7 @@ ghost use Rattle.format.specs.declared.Family.{Family};
 ghost use Rattle.floats.specs.Leaves.{float_matches};
 ghost use Rattle.grammar.specs.Family.{no_element, list_of};
 ghost use Rattle.leaves.specs.Leaves.{LeafHere, FloatLeafHere};
+ghost use Rattle.masks.specs.Masks.{bit};
 ghost use Rattle.element_match.specs.Contract.{Among, Tells, Missed, Asks, AsksOne, Walks, HitsAt, OneHit, WalkTells, mask_in, place_in};
 
 use floats::{Leaf, leaf_hit as leaf_matches};
@@ -36,22 +37,32 @@ fn place_in(r: u64) -> usize
     (r >> 32) as usize
 }
 
+// Of the asked elements those that fail the test.
+fn failing<T: Copy, F: Fn(T) -> bool>(elements: &[T], asked: u32, test: F) -> u32
+    requires among { Among asked elements.now }
+    requires callable { F.IsAlwaysCallable test }
+    ensures tested { (j : ℕ) (d : T) → bit asked j ≡ true → F.post test (get_or elements.now j d) (not (bit result j)) }
+    ensures others { (j : ℕ) → bit asked j ≡ false → bit result j ≡ false }
+{
+    let mut rest = asked;
+    let mut left = asked;
+    // No `for`: this goes from bit to bit of a mask, and counts nothing.
+    while left != 0 {
+        let e = lowest(left);
+        left = without_lowest(left);
+        if test(elements[e as usize]) {
+            rest = flip(rest, e);
+        }
+    }
+    rest
+}
+
 // Of the asked elements those that lie outside the bounds.
 fn missed(integers: &[i32], asked: u32, lower: i32, upper: i32) -> u32
     requires { Among asked integers.now }
     ensures { Missed integers.now asked lower upper result }
 {
-    let mut rest = asked;
-    let mut left = asked;
-    while left != 0 {
-        let e = lowest(left);
-        left = without_lowest(left);
-        let x = integers[e as usize];
-        if within(x, lower, upper) {
-            rest = flip(rest, e);
-        }
-    }
-    rest
+    failing(integers, asked, |x| within(x, lower, upper))
 }
 
 // Of the asked elements those that the leaf does not match.
@@ -59,17 +70,7 @@ fn missed_floats(floats: &[f64], asked: u32, l: Leaf) -> u32
     requires { Among asked floats.now }
     ensures { Tells asked (λ j. not (float_matches l (get_or floats.now j nan))) result }
 {
-    let mut rest = asked;
-    let mut left = asked;
-    while left != 0 {
-        let e = lowest(left);
-        left = without_lowest(left);
-        let x = floats[e as usize];
-        if leaf_matches(l, x) {
-            rest = flip(rest, e);
-        }
-    }
-    rest
+    failing(floats, asked, |x| leaf_matches(l, x))
 }
 
 // Of the asked elements all but those.

@@ -1,6 +1,8 @@
 -- One row changed at a time, the rows of a leaf's elements, and the members one by one. Assumes nothing.
 use mathlib.Core.Path.{◌≡◌, refl, sym, ap, ◌∙◌}
-use mathlib.Core.Bool.{Bool, true, false, ◌&&◌, ◌||◌, or-false, or-true}
+use mathlib.Core.Bool.{Bool, true, false, ◌&&◌, ◌||◌, cond, or-false, or-true}
+use lib.Dec.{eqb}
+use borrow.Author.Tests.{eq-eqb, ne_eqb}
 use mathlib.Core.Logic.{⊎_elim}
 use mathlib.Core.List.{List, [], ◌∷◌, ◌++◌}
 use Prim.Native.Nat.{ℕ, zero, suc, ◌+◌, ◌≤◌, ◌<◌}
@@ -8,14 +10,9 @@ use native.Mathlib.Omega.{arith}
 use lib.ListN.{length, get_or, take, drop, set, replicate, length-set}
 use lib.IntN.{ℤ, pos}
 use lib.Ieee.{Float, nan}
-use lib.Signed.{le_z}
 use lib.Seq.{get_or-set_same, get_or-set_other, set-get_or, get_or-take}
 use borrow.Author.Rules.{rules}
 use Rattle.std.proofs.lemmas.List.{places}
-use mir.Syntax.{w32}
-use mir.Val.{to_z, of_z, SFits}
-use mir.Facts.{to_z-of_z}
-use Rattle.integers.specs.Integer.{Word}
 use Rattle.facts.specs.Counting.{between}
 use Rattle.facts.proofs.Cases.{below, same?, clash, not_so}
 use Rattle.facts.proofs.Spans.{between_in, between_from, between_to, between_past}
@@ -90,7 +87,7 @@ pub marked_added : {before : List ℕ} {m : ℕ} {test : ℕ → Bool} {n : ℕ}
 marked_added g = record { size = g.size; other = g.other; self = g.self }
 
 -- two tests that agree mark the same rows
-marked_same : (before : List ℕ) (m : ℕ) (test test' : ℕ → Bool) (n : ℕ) (rows : List ℕ) → ((e : ℕ) → e < n → test e ≡ test' e) → Marked before m test n rows
+pub marked_same : (before : List ℕ) (m : ℕ) (test test' : ℕ → Bool) (n : ℕ) (rows : List ℕ) → ((e : ℕ) → e < n → test e ≡ test' e) → Marked before m test n rows
     → Marked before m test' n rows
 marked_same before m test test' n rows same g = record {
   size = g.size;
@@ -99,37 +96,41 @@ marked_same before m test test' n rows same g = record {
   beyond = g.beyond;
 }
 
--- ---- the elements between the bounds
+-- ---- the elements that pass a test, one by one
 
--- a 32-bit integer as the machine reads it back from its bits
-pub read_back : (x y : ℤ) → Word x → x ≡ y → to_z w32 (of_z w32 x) ≡ y
-read_back x y word e = to_z-of_z {w = w32} (record { sfits = word }) ∙ e
+-- of the elements below n it is told whether each passes, and the member stands in the rows of those that do
+pub record Passing (before : List ℕ) (m : ℕ) (Test : ℕ → Bool → Type 0) (n : ℕ) (rows : List ℕ) : Type 0 where
+  pub passes : ℕ → Bool
+  pub marked : Marked before m passes n rows
+  pub told : (e : ℕ) → e < n → Test e (passes e)
 
-module _ (before : List ℕ) (m : ℕ) (xs : List ℤ) (lower upper : ℤ) where
-  pub within_start : length before ≡ 32 → MarkedWithin before m xs lower upper 0 before
-  within_start size = record { words = λ e l. absurd (omega arith); marked = marked_start before m _ size }
+pub passing_start : (before : List ℕ) (m : ℕ) (Test : ℕ → Bool → Type 0) → length before ≡ 32 → Passing before m Test 0 before
+passing_start before m Test size = record { passes = λ e. false; marked = marked_start before m _ size; told = λ e l. absurd (omega arith) }
 
-  module _ (n : ℕ) (rows : List ℕ) (g : MarkedWithin before m xs lower upper n rows) (x : ℤ) (hit : Bool)
-      (told : hit ≡ (le_z lower (to_z w32 (of_z w32 x)) && le_z (to_z w32 (of_z w32 x)) upper)) (word : Word x) (here : x ≡ get_or xs n (pos 0)) where
-    words_next : (e : ℕ) → e < n + 1 → Word (get_or xs e (pos 0))
-    words_next e l = ⊎_elim
-        (λ (i : e < n). g.words e i)
-        (λ (i : n ≤ e). let z : e ≡ n = omega arith in rw (z, sym here) word)
-        (below e n)
+module _ (before : List ℕ) (m : ℕ) (Test : ℕ → Bool → Type 0) (n : ℕ) (rows : List ℕ) (g : Passing before m Test n rows) (hit : Bool) (here : Test n hit) where
+  abbrev passes_next : ℕ → Bool
+  passes_next e = cond (eqb e n) hit (g.passes e)
 
-    test_told : (le_z lower (get_or xs n (pos 0)) && le_z (get_or xs n (pos 0)) upper) ≡ hit
-    test_told = rw (sym here) (sym (told ∙ rw (read_back x x word refl)))
+  next_here : passes_next n ≡ hit
+  next_here = rw (eq-eqb n n refl)
 
-    pub within_hit : (row : ℕ) → n < 32 → hit ≡ true → Plus (bit (get_or rows n 0)) m (bit row) → MarkedWithin before m xs lower upper (n + 1) (set rows n row)
-    within_hit row low b p = record { words = words_next; marked = marked_hit before m _ n rows g.marked row low (test_told ∙ b) p }
+  next_below : (e : ℕ) → e < n → passes_next e ≡ g.passes e
+  next_below e l = rw (ne_eqb e n (λ z. omega arith))
 
-    pub within_kept : (row : ℕ) → hit ≡ false → row ≡ get_or rows n 0 → MarkedWithin before m xs lower upper (n + 1) (set rows n row)
-    within_kept row b z = record { words = words_next; marked = marked_kept before m _ n rows g.marked row (test_told ∙ b) z }
+  marked_next : Marked before m passes_next n rows
+  marked_next = marked_same before m g.passes passes_next n rows (λ e l. sym (next_below e l)) g.marked
 
--- the bounds as the machine reads them back from their bits
-pub within_bounds : (before : List ℕ) (m : ℕ) (xs : List ℤ) (lower upper : ℤ) (n : ℕ) (rows : List ℕ) → SFits w32 lower → SFits w32 upper
-    → MarkedWithin before m xs (to_z w32 (of_z w32 lower)) (to_z w32 (of_z w32 upper)) n rows → MarkedWithin before m xs lower upper n rows
-within_bounds before m xs lower upper n rows fl fu g = rw (to_z-of_z fl, to_z-of_z fu) at g
+  told_next : (e : ℕ) → e < n + 1 → Test e (passes_next e)
+  told_next e l = ⊎_elim
+      (λ (i : e < n). rw (next_below e i) (g.told e i))
+      (λ (i : n ≤ e). let z : e ≡ n = omega arith in rw (z, next_here) here)
+      (below e n)
+
+  pub passing_hit : (row : ℕ) → n < 32 → hit ≡ true → Plus (bit (get_or rows n 0)) m (bit row) → Passing before m Test (n + 1) (set rows n row)
+  passing_hit row low b p = record { passes = passes_next; marked = marked_hit before m _ n rows marked_next row low (next_here ∙ b) p; told = told_next }
+
+  pub passing_kept : (row : ℕ) → hit ≡ false → row ≡ get_or rows n 0 → Passing before m Test (n + 1) (set rows n row)
+  passing_kept row b z = record { passes = passes_next; marked = marked_kept before m _ n rows marked_next row (next_here ∙ b) z; told = told_next }
 
 -- ---- the elements of a mask, one by one
 

@@ -1,7 +1,7 @@
 // Which member of a template matches which element of a list.
 #![tactic(auto)]
 
-ghost use Rattle.std.specs.Prelude.{true, List, ◌≡◌, ◌+◌, ◌*◌, ◌/◌, ◌≤◌, ◌<◌, length, get_or, take};
+ghost use Rattle.std.specs.Prelude.{Bool, true, List, ℕ, ◌≡◌, ◌+◌, ◌*◌, ◌/◌, ◌≤◌, ◌<◌, length, get_or, take};
 ghost use Rattle.grammar.specs.Element.{Elem};
 ghost use Rattle.std.specs.Float.{nan};
 ghost use Rattle.format.specs.declared.Family.{Family};
@@ -10,7 +10,7 @@ ghost use Rattle.grammar.specs.Family.{LeafOf, list_of, Lent};
 ghost use Rattle.grammar.specs.Blocks.{Standing};
 ghost use Rattle.masks.specs.Masks.{bit};
 ghost use Rattle.member_rows.specs.Contract.{RowsOf};
-ghost use Rattle.member_rows.specs.Places.{Served, Widened, Marks, Added, MarkedWithin, MarkedBy, MembersMarked, Cleared};
+ghost use Rattle.member_rows.specs.Places.{Served, Widened, Marks, Marked, Added, MarkedWithin, MarkedBy, MembersMarked, Cleared};
 
 use element_match::hits;
 use floats::{Leaf, leaf_hit};
@@ -29,20 +29,24 @@ pub fn widened(integers: &[i32]) -> [i32; 32]
     wide
 }
 
-// Puts member m into the first n rows, of those elements that lie between the bounds, both ends included. Each row is written, changed or not, so
-// that the compiler takes several at a time.
+// Puts member m into the rows of those elements that pass the test. Each row is written, changed or not, so that the compiler takes several at a time.
+fn mark_passing<T: Copy, F: Fn(T) -> bool>(rows: &mut [u32; 32], m: u8, elements: &[T], test: F)
+    requires fits { (length rows.old ≡ 32) × (m < 32) × (length elements.now ≤ 32) }
+    requires callable { F.IsAlwaysCallable test }
+    ensures { (passes : ℕ → Bool) × Marked rows.old m passes (length elements.now) rows.new × ((e : ℕ) (d : T) → e < length elements.now → F.post test (get_or elements.now e d) (passes e)) }
+{
+    for e in 0..elements.len() {
+        let row = rows[e];
+        rows[e] = if test(elements[e]) { with(row, m) } else { row };
+    }
+}
+
+// Puts member m into the first n rows, of those elements that lie between the bounds, both ends included.
 fn mark_within(rows: &mut [u32; 32], m: u8, wide: &[i32; 32], n: usize, lower: i32, upper: i32)
     requires { (length rows.old ≡ 32) × (m < 32) × (n ≤ 32) }
     ensures { MarkedWithin rows.old m wide.now lower upper n rows.new }
 {
-    for e in 0..n {
-        let row = rows[e];
-        rows[e] = if within(wide[e], lower, upper) {
-            with(row, m)
-        } else {
-            row
-        };
-    }
+    mark_passing(rows, m, &wide[..n], |x| within(x, lower, upper));
 }
 
 // Puts member m into the first n rows.
@@ -61,14 +65,7 @@ fn mark_floats(rows: &mut [u32; 32], m: u8, floats: &[f64], l: Leaf)
     requires { (length rows.old ≡ 32) × (m < 32) × (length floats.now ≤ 32) }
     ensures { Added rows.old m (λ e. float_matches l (get_or floats.now e nan)) (length floats.now) rows.new }
 {
-    for e in 0..floats.len() {
-        let row = rows[e];
-        rows[e] = if leaf_hit(l, floats[e]) {
-            with(row, m)
-        } else {
-            row
-        };
-    }
+    mark_passing(rows, m, floats, |x| leaf_hit(l, x));
 }
 
 // Puts member m into the rows of these elements.
