@@ -7,7 +7,7 @@ ghost use Rattle.judging.specs.Reach.{any_pair, SparesOf, Reached, Fresh, Group,
 
 use blocks::{Block, is_one};
 use format::SPARE;
-use masks::{has, span, with, with_place};
+use masks::{has, lesser, span, with, with_place};
 use place_masks::{in_both, in_either, left_out, lowest_place, moved_up};
 
 // Whether x is a member of the block, and is not among the members yet.
@@ -38,7 +38,7 @@ fn last_end(b: Block, from: usize, n: u8) -> usize
     ensures { result ≡ min (from + b.k + b.max) n }
 {
     let most = from + b.k as usize + b.max as usize;
-    most.min(n as usize)
+    lesser(most, n as usize)
 }
 
 // The ends, with `to` where the piece from .. to - 1, in which these members stand, has all members of b and no fewer elements than b asks.

@@ -6,6 +6,8 @@ ghost use Rattle.std.specs.Prelude.{◌≡◌, ◌&&◌, ◌||◌, not, ℕ, ◌
 ghost use Rattle.masks.specs.Masks.{bit, Lowest, Highest};
 ghost use Rattle.place_masks.specs.Places.{Before, After};
 
+use masks::lesser;
+
 // Every place below 64.
 const EVERYWHERE: u64 = 0xffff_ffff_ffff_ffff;
 
@@ -110,7 +112,7 @@ fn spread_down(places: u64, more: usize) -> u64
     let mut r = places;
     let mut done: usize = 0;
     while done < more {
-        let s = (done + 1).min(more - done);
+        let s = lesser(done + 1, more - done);
         r = in_either(r, moved_down(r, s));
         done += s;
     }
@@ -125,7 +127,7 @@ fn spread_up(places: u64, more: usize) -> u64
     let mut r = places;
     let mut done: usize = 0;
     while done < more {
-        let s = (done + 1).min(more - done);
+        let s = lesser(done + 1, more - done);
         r = in_either(r, moved_up(r, s));
         done += s;
     }

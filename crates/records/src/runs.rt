@@ -6,6 +6,7 @@ ghost use Rattle.records.specs.Runs.{joinable, in_one, RunsJoined};
 
 use blocks::{Block, block_of, number_of};
 use format::LIST_MOST;
+use masks::lesser;
 
 // The number of a block with a member: no run goes on from it.
 const NO_RUN: u32 = 256;
@@ -23,7 +24,7 @@ fn joins(before: u32, number: u32) -> bool
 fn together(x: u8, y: u8) -> u8
     ensures { result ≡ min (x + y) 33 }
 {
-    (x as usize + y as usize).min(LIST_MOST + 1) as u8
+    lesser(x as usize + y as usize, LIST_MOST + 1) as u8
 }
 
 // The number of that 20.

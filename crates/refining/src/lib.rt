@@ -12,14 +12,14 @@ ghost use Rattle.refining.specs.Refine.{Later, Next, Standing, Candidates, Excha
 
 use chains::{explore, settle, spare_places};
 use format::{MEMBERS_MOST, SPARE};
-use masks::{below, flip, lowest, span, with, without_lowest};
+use masks::{below, flip, lesser_byte, lowest, span, with, without_lowest};
 
 // Of the members that are left, those that may take e and are below its byte: who can make the list come earlier.
 fn rivals(rows: &[u32; 32], left: u32, byte: u8, e: u8) -> u32
     requires { e < 32 }
     ensures { (m : ℕ) → bit result m ≡ ((may rows.now m e && bit left m) && between 0 (min byte 32) m) }
 {
-    let bound = below(byte.min(MEMBERS_MOST));
+    let bound = below(lesser_byte(byte, MEMBERS_MOST));
     rows[e as usize] & left & bound
 }
 

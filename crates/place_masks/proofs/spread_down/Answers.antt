@@ -5,5 +5,5 @@ use Rattle.place_masks.proofs.spread_down.Goals as goal
 
 pub loop-done-preserved : goal.loop-done-preserved
 loop-done-preserved c =
-    let s = c.min-s.ensures in
-    (omega arith, before_wider c.min-s.result c.moved_down.result (omega arith) c.moved_down.ensures c.in_either-r.ensures c.loop-done.invariant.1)
+    let s = c.lesser-s.ensures in
+    (omega arith, before_wider c.lesser-s.result c.moved_down.result (omega arith) c.moved_down.ensures c.in_either-r.ensures c.loop-done.invariant.1)

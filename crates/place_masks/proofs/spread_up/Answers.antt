@@ -8,5 +8,5 @@ loop-done-init c = (omega arith, after_start _ c.ranges.places.fits)
 
 pub loop-done-preserved : goal.loop-done-preserved
 loop-done-preserved c =
-    let s = c.min-s.ensures in
-    (omega arith, after_wider c.min-s.result c.moved_up.result (omega arith) c.moved_up.ensures c.in_either-r.ensures c.loop-done.invariant.1)
+    let s = c.lesser-s.ensures in
+    (omega arith, after_wider c.lesser-s.result c.moved_up.result (omega arith) c.moved_up.ensures c.in_either-r.ensures c.loop-done.invariant.1)
