@@ -18,9 +18,8 @@
 #![tactic(auto)]
 
 use answers::Normal;
-use ask_parts::{
-    Answer, FLOATS, JUDGE, MATCH, MEETING, NORMALISE, Request, print_answer, read_request,
-};
+use ask_parts::{Answer, Kind, Request, Stop, print_bad, print_line, read_request};
+use format::Family;
 use matcher::{judge, judge_floats, match_floats, match_list};
 use meeting::meeting;
 use normal::normalise;
@@ -29,55 +28,35 @@ use why::{Why, why_not, why_not_floats};
 // Each byte of a room before a call.
 const UNTOUCHED: u8 = 165;
 
-fn of_number(number: u8) -> Answer {
-    Answer {
-        number,
-        length: 0,
-        group: 0,
-    }
-}
-
 // What the normaliser and the meeting give back.
 fn of_form(form: Normal) -> Answer {
-    Answer {
-        number: form.number,
-        length: form.length,
-        group: 0,
-    }
+    Answer::Form(form.number, form.length)
 }
 
 // What the reason for no match gives back.
 fn of_reason(why: Why) -> Answer {
-    Answer {
-        number: why.number,
-        length: 0,
-        group: why.group,
+    Answer::Reason(why.number, why.group)
+}
+
+// What the entry point for a request about a list of integers gives back. The room of a judgement holds the witness.
+fn of_integers(
+    request: Request,
+    template: &[u8],
+    second: &[u8],
+    list: &[i32],
+    room: &mut [u8],
+) -> Answer {
+    let bounds = request.bounds;
+    match request.kind {
+        Kind::Match => Answer::Match(match_list(template, list, room)),
+        Kind::Judge => Answer::Judgement(judge(template, list, room)),
+        Kind::Normalise => of_form(normalise(template, bounds.lower, bounds.upper, room)),
+        Kind::Meeting => of_form(meeting(template, second, bounds.lower, bounds.upper, room)),
+        Kind::WhyNot => of_reason(why_not(template, list)),
     }
 }
 
-// What the entry point for this kind and a list of integers gives back.
-fn of_integers(kind: usize, template: &[u8], list: &[i32], room: &mut [u8]) -> Answer {
-    if kind == MATCH {
-        return of_number(match_list(template, list, room));
-    }
-    if kind == JUDGE {
-        return of_number(judge(template, list, room));
-    }
-    of_reason(why_not(template, list))
-}
-
-// The same for a list of floats.
-fn of_floats(kind: usize, template: &[u8], list: &[f64], room: &mut [u8]) -> Answer {
-    if kind == MATCH {
-        return of_number(match_floats(template, list, room));
-    }
-    if kind == JUDGE {
-        return of_number(judge_floats(template, list, room));
-    }
-    of_reason(why_not_floats(template, list))
-}
-
-// The room of a judgement holds the witness. Of a bad request nothing of this is printed.
+// What the entry point for a request gives back. What is of a type is of integers.
 fn answer_of(
     request: Request,
     template: &[u8],
@@ -86,34 +65,17 @@ fn answer_of(
     floats: &[f64],
     room: &mut [u8],
 ) -> Answer {
-    if request.kind == NORMALISE {
-        return of_form(normalise(template, request.lower, request.upper, room));
+    match (request.family, request.kind) {
+        (Family::Floats, Kind::Match) => Answer::Match(match_floats(template, floats, room)),
+        (Family::Floats, Kind::Judge) => Answer::Judgement(judge_floats(template, floats, room)),
+        (Family::Floats, Kind::WhyNot) => of_reason(why_not_floats(template, floats)),
+        _ => of_integers(request, template, second, integers, room),
     }
-    if request.kind == MEETING {
-        return of_form(meeting(template, second, request.lower, request.upper, room));
-    }
-    if request.family == FLOATS {
-        return of_floats(request.kind, template, floats, room);
-    }
-    of_integers(request.kind, template, integers, room)
 }
 
-// Prints the line, and says whether another request may follow.
-fn answer(
-    rt: &HostRuntime,
-    request: Request,
-    template: &[u8],
-    second: &[u8],
-    integers: &[i32],
-    floats: &[f64],
-    room: &mut [u8],
-) -> bool {
-    let given = answer_of(request, template, second, integers, floats, room);
-    print_answer(rt, request.kind, given, room)
-}
-
-// Both lists have as many elements as were read; only that of the family is looked at.
-fn take_request(rt: &HostRuntime) -> bool {
+// Takes the next request and prints its line, or says why there is none. Both lists have as many elements as were read; only that of the family is
+// looked at.
+fn take_request(rt: &HostRuntime) -> Result<(), Stop> {
     let mut template = [0u8; 5000];
     let mut second = [0u8; 5000];
     let mut integers = [0i32; 64];
@@ -126,28 +88,29 @@ fn take_request(rt: &HostRuntime) -> bool {
         &mut integers,
         &mut floats,
         &mut room,
-    );
-    let t = request.template;
-    let s = request.second;
-    let n = request.list;
-    let r = request.room;
-    answer(
-        rt,
+    )?;
+    let answer = answer_of(
         request,
-        &template[..t],
-        &second[..s],
-        &integers[..n],
-        &floats[..n],
-        &mut room[..r],
-    )
+        &template[..request.template],
+        &second[..request.second],
+        &integers[..request.list],
+        &floats[..request.list],
+        &mut room[..request.room],
+    );
+    print_line(rt, answer, &room[..request.room]);
+    Ok(())
 }
 
-// Nothing says that the input ends, so the turns are counted down from a number that no run uses up.
+// Nothing says that the input ends, so the turns are counted up to a number that no run reaches.
 fn main(rt: HostRuntime) {
-    let mut turns = u64::MAX;
-    let mut goes_on = true;
-    while turns > 0 && goes_on {
-        goes_on = take_request(&rt);
-        turns -= 1;
+    for _ in 0..u64::MAX {
+        match take_request(&rt) {
+            Ok(()) => {}
+            Err(Stop::Bad) => {
+                print_bad(&rt);
+                return;
+            }
+            Err(Stop::End) => return,
+        }
     }
 }

@@ -2,33 +2,44 @@
 // program's header says the format of both.
 #![tactic(auto)]
 
-ghost use Rattle.std.specs.Prelude.{◌≤◌};
+ghost use Rattle.std.specs.Prelude.{◌+◌, ◌≤◌, IfOk, length};
 
 use floats::float_at;
+use format::Family;
 use integers::int_at;
 use std::io::{Read, Write};
 
-// The first byte of a request says its kind.
-pub const MATCH: usize = 1;
+// What a request asks for. Its first byte says which.
+#[derive(Clone, Copy, PartialEq, Eq)]
+pub enum Kind {
+    Match,
+    Judge,
+    Normalise,
+    Meeting,
+    WhyNot,
+}
 
-pub const JUDGE: usize = 2;
+// Why no request follows: the input has ended, or it goes on with something else.
+#[derive(Clone, Copy, PartialEq, Eq)]
+pub enum Stop {
+    End,
+    Bad,
+}
 
-pub const NORMALISE: usize = 3;
+impl TryFrom<u8> for Kind {
+    type Error = Stop;
 
-pub const MEETING: usize = 4;
-
-pub const WHY_NOT: usize = 7;
-
-// The second byte says its family, where the kind has one.
-const INTEGERS: usize = 0;
-
-pub const FLOATS: usize = 1;
-
-// The kind of a bad request.
-const BAD: usize = 0;
-
-// Stands for a byte that is missing; a count with such a byte is over every bound. The kind where the input ends.
-const ABSENT: usize = 65536;
+    fn try_from(byte: u8) -> Result<Kind, Stop> {
+        match byte {
+            1 => Ok(Kind::Match),
+            2 => Ok(Kind::Judge),
+            3 => Ok(Kind::Normalise),
+            4 => Ok(Kind::Meeting),
+            7 => Ok(Kind::WhyNot),
+            _ => Err(Stop::Bad),
+        }
+    }
+}
 
 // The bounds of the counts. Of the bytes of a template, and of each form of a meeting.
 const ASKED_TEMPLATE_MOST: usize = 5000;
@@ -38,251 +49,202 @@ const ASKED_LIST_MOST: usize = 64;
 // Of the bytes of a room, and of a witness.
 const ASKED_ROOM_MOST: usize = 1024;
 
-// What stands at the front of the arrays that are lent: template bytes, or the first form of a meeting and the bytes of the second, integers or
-// floats as the family says, and the bytes of the room or the witness. `lower` and `upper` are the bounds of the type of a normal form or a meeting.
+// The type of a normal form or a meeting: the integers from `lower` to `upper`.
 #[derive(Clone, Copy)]
-pub struct Request {
-    pub kind: usize,
-    pub family: usize,
-    pub template: usize,
-    pub second: usize,
+pub struct Bounds {
     pub lower: i32,
     pub upper: i32,
+}
+
+// What stands at the front of the arrays that are lent: template bytes, or the first form of a meeting and the bytes of the second, integers or
+// floats as the family says, and the bytes of the room or the witness.
+#[derive(Clone, Copy)]
+pub struct Request {
+    pub kind: Kind,
+    pub family: Family,
+    pub template: usize,
+    pub second: usize,
+    pub bounds: Bounds,
     pub list: usize,
     pub room: usize,
 }
 
-// The bounds of a type, and whether they were there to be read.
-#[derive(Drop)]
-struct Bounds {
-    read: bool,
-    lower: i32,
-    upper: i32,
+// What an entry point gives back: a number, and with it the length of a normal form or the mask of a group.
+#[derive(Clone, Copy)]
+pub enum Answer {
+    Match(u8),
+    Judgement(u8),
+    Form(u8, usize),
+    Reason(u8, u32),
 }
 
-// What an entry point gives back: a number, and the length of a normal form or the mask of a group.
-#[derive(Drop)]
-pub struct Answer {
-    pub number: u8,
-    pub length: usize,
-    pub group: u32,
+// Fills the part, where the input has so many bytes and can be read.
+fn read_full(rt: &HostRuntime, part: &mut [u8]) -> Result<(), Stop> {
+    match rt.stdin().read_exact(part) {
+        Ok(()) => Ok(()),
+        Err(_) => Err(Stop::Bad),
+    }
 }
 
-fn wide(byte: u8) -> usize
-    ensures { result ≤ 65536 }
-{
-    byte as usize
-}
-
-// Reads until the part is full, and says whether it is: not where the input ends before, or a read fails.
-fn read_full(rt: &HostRuntime, part: &mut [u8]) -> bool {
-    rt.stdin().read_exact(part).is_ok()
-}
-
-// The next byte.
-fn next_byte(rt: &HostRuntime) -> usize
-    ensures { result ≤ 65536 }
-{
+fn next_byte(rt: &HostRuntime) -> Result<u8, Stop> {
     let mut one = [0u8; 1];
-    if !read_full(rt, &mut one) {
-        return ABSENT;
-    }
-    wide(one[0])
+    read_full(rt, &mut one)?;
+    Ok(one[0])
 }
 
-// The next count, of two bytes.
-fn next_count(rt: &HostRuntime) -> usize {
+// The next count, of two bytes, which is to be at most `most`.
+fn next_count(rt: &HostRuntime, most: usize) -> Result<usize, Stop>
+    ensures { IfOk result (λ n. n ≤ most) }
+{
     let mut two = [0u8; 2];
-    if !read_full(rt, &mut two) {
-        return ABSENT;
+    read_full(rt, &mut two)?;
+    let n = usize::from(u16::from_le_bytes(two));
+    if most < n {
+        return Err(Stop::Bad);
     }
-    wide(two[0]) + 256 * wide(two[1])
+    Ok(n)
 }
 
-// Reads `n` bytes to the front of `part`, and says whether there was room and input for them.
-fn read_bytes(rt: &HostRuntime, part: &mut [u8], n: usize) -> bool {
+// Reads `n` bytes to the front of `part`, where there is room for them.
+fn read_bytes(rt: &HostRuntime, part: &mut [u8], n: usize) -> Result<(), Stop> {
     if part.len() < n {
-        return false;
+        return Err(Stop::Bad);
     }
     read_full(rt, &mut part[..n])
 }
 
 // Reads a count and as many bytes to the front of `part`, and gives back the count.
-fn read_part(rt: &HostRuntime, part: &mut [u8]) -> usize {
-    let n = next_count(rt);
-    if read_bytes(rt, part, n) { n } else { ABSENT }
+fn read_part(rt: &HostRuntime, part: &mut [u8], most: usize) -> Result<usize, Stop>
+    ensures { IfOk result (λ n. n ≤ most) }
+{
+    let n = next_count(rt, most)?;
+    read_bytes(rt, part, n)?;
+    Ok(n)
 }
 
-// Reads `n` integers to the front of `list`, and says whether there was room and input for them.
-fn read_integers(rt: &HostRuntime, list: &mut [i32], n: usize) -> bool {
+// An element of a list, as a request has it.
+trait Element: Copy {
+    // How many bytes it has.
+    fn size() -> usize
+        ensures { result ≤ 8 };
+
+    // The one whose bytes stand at `at`.
+    fn read(bytes: &[u8], at: usize) -> Self
+        requires { at + 8 ≤ length bytes.now };
+}
+
+impl Element for i32 {
+    fn size() -> usize {
+        4
+    }
+
+    fn read(bytes: &[u8], at: usize) -> i32 {
+        int_at(bytes, at)
+    }
+}
+
+impl Element for f64 {
+    fn size() -> usize {
+        8
+    }
+
+    fn read(bytes: &[u8], at: usize) -> f64 {
+        float_at(bytes, at)
+    }
+}
+
+// Reads `n` elements to the front of the list, where there is room for them.
+fn read_elements<E: Element>(rt: &HostRuntime, list: &mut [E], n: usize) -> Result<(), Stop>
+    requires { n ≤ 64 }
+{
+    let mut bytes = [0u8; 520];
+    let size = E::size();
     if list.len() < n {
-        return false;
+        return Err(Stop::Bad);
     }
-    if ASKED_LIST_MOST < n {
-        return false;
+    read_full(rt, &mut bytes[..size * n])?;
+    for i in 0..n {
+        list[i] = E::read(&bytes, size * i);
     }
-    let mut bytes = [0u8; 256];
-    if !read_bytes(rt, &mut bytes, 4 * n) {
-        return false;
-    }
-    let mut i: usize = 0;
-    while i < n {
-        list[i] = int_at(&bytes, 4 * i);
-        i += 1;
-    }
-    true
-}
-
-// Reads `n` floats to the front of `list`, and says whether there was room and input for them.
-fn read_floats(rt: &HostRuntime, list: &mut [f64], n: usize) -> bool {
-    if list.len() < n {
-        return false;
-    }
-    if ASKED_LIST_MOST < n {
-        return false;
-    }
-    let mut bytes = [0u8; 512];
-    if !read_bytes(rt, &mut bytes, 8 * n) {
-        return false;
-    }
-    let mut i: usize = 0;
-    while i < n {
-        list[i] = float_at(&bytes, 8 * i);
-        i += 1;
-    }
-    true
-}
-
-// Reads `n` elements of the family, and says whether there was room and input for them.
-fn read_elements(
-    rt: &HostRuntime,
-    family: usize,
-    integers: &mut [i32],
-    floats: &mut [f64],
-    n: usize,
-) -> bool {
-    if family == FLOATS {
-        return read_floats(rt, floats, n);
-    }
-    read_integers(rt, integers, n)
+    Ok(())
 }
 
 // Whether a request of this kind is of a type and not of a list.
-fn is_of_type(kind: usize) -> bool {
-    (kind == NORMALISE) | (kind == MEETING)
+fn is_of_type(kind: Kind) -> bool {
+    (kind == Kind::Normalise) | (kind == Kind::Meeting)
 }
 
 // Reads a count and as many elements, and gives back the count. What is of a type has no list.
 fn read_list(
     rt: &HostRuntime,
-    kind: usize,
-    family: usize,
+    kind: Kind,
+    family: Family,
     integers: &mut [i32],
     floats: &mut [f64],
-) -> usize {
+) -> Result<usize, Stop>
+    ensures { IfOk result (λ n. n ≤ 64) }
+{
     if is_of_type(kind) {
-        return 0;
+        return Ok(0);
     }
-    let n = next_count(rt);
-    if read_elements(rt, family, integers, floats, n) {
-        n
-    } else {
-        ABSENT
+    let n = next_count(rt, ASKED_LIST_MOST)?;
+    match family {
+        Family::Integers => read_elements(rt, integers, n)?,
+        Family::Floats => read_elements(rt, floats, n)?,
     }
+    Ok(n)
 }
 
 // Reads the family. What is of a type is of integers only.
-fn read_family(rt: &HostRuntime, kind: usize) -> usize {
+fn read_family(rt: &HostRuntime, kind: Kind) -> Result<Family, Stop> {
     if is_of_type(kind) {
-        return INTEGERS;
+        return Ok(Family::Integers);
     }
-    next_byte(rt)
+    match next_byte(rt)? {
+        0 => Ok(Family::Integers),
+        1 => Ok(Family::Floats),
+        _ => Err(Stop::Bad),
+    }
 }
 
 // Reads a count and as many bytes of the second form. Only a meeting has one.
-fn read_second(rt: &HostRuntime, kind: usize, second: &mut [u8]) -> usize {
-    if kind == MEETING {
-        return read_part(rt, second);
+fn read_second(rt: &HostRuntime, kind: Kind, second: &mut [u8]) -> Result<usize, Stop>
+    ensures { IfOk result (λ n. n ≤ 5000) }
+{
+    if kind == Kind::Meeting {
+        return read_part(rt, second, ASKED_TEMPLATE_MOST);
     }
-    0
+    Ok(0)
 }
 
 // Reads the bounds of the type, where there is one.
-fn read_bounds(rt: &HostRuntime, kind: usize) -> Bounds {
+fn read_bounds(rt: &HostRuntime, kind: Kind) -> Result<Bounds, Stop> {
     let mut both = [0i32; 2];
-    let n = if is_of_type(kind) { 2 } else { 0 };
-    let read = read_integers(rt, &mut both, n);
-    Bounds {
-        read,
+    if is_of_type(kind) {
+        read_elements(rt, &mut both, 2)?;
+    }
+    Ok(Bounds {
         lower: both[0],
         upper: both[1],
-    }
+    })
 }
 
 // Reads the last count, and the witness of a judgement.
-fn read_room(rt: &HostRuntime, kind: usize, room: &mut [u8]) -> usize {
-    if kind == WHY_NOT {
-        return 0;
-    }
-    if kind == JUDGE {
-        return read_part(rt, room);
-    }
-    next_count(rt)
-}
-
-fn without_parts(kind: usize) -> Request
-    ensures { (result.template ≤ 5000) × (result.second ≤ 5000) × (result.list ≤ 64) × (result.room ≤ 1024) }
+fn read_room(rt: &HostRuntime, kind: Kind, room: &mut [u8]) -> Result<usize, Stop>
+    ensures { IfOk result (λ n. n ≤ 1024) }
 {
-    Request {
-        kind,
-        family: INTEGERS,
-        template: 0,
-        second: 0,
-        lower: 0,
-        upper: 0,
-        list: 0,
-        room: 0,
+    match kind {
+        Kind::WhyNot => Ok(0),
+        Kind::Judge => read_part(rt, room, ASKED_ROOM_MOST),
+        _ => next_count(rt, ASKED_ROOM_MOST),
     }
 }
 
-fn within_bounds(
-    kind: usize,
-    family: usize,
-    template: usize,
-    second: usize,
-    bounds: Bounds,
-    list: usize,
-    room: usize,
-) -> Request
-    ensures { (result.template ≤ 5000) × (result.second ≤ 5000) × (result.list ≤ 64) × (result.room ≤ 1024) }
-{
-    if kind == ABSENT {
-        return without_parts(ABSENT);
-    }
-    if (FLOATS < family) | !bounds.read {
-        return without_parts(BAD);
-    }
-    if ASKED_TEMPLATE_MOST < template {
-        return without_parts(BAD);
-    }
-    if ASKED_TEMPLATE_MOST < second {
-        return without_parts(BAD);
-    }
-    if ASKED_LIST_MOST < list {
-        return without_parts(BAD);
-    }
-    if ASKED_ROOM_MOST < room {
-        return without_parts(BAD);
-    }
-    Request {
-        kind,
-        family,
-        template,
-        second,
-        lower: bounds.lower,
-        upper: bounds.upper,
-        list,
-        room,
+// The kind of the next request. The input may end in its place.
+fn next_kind(rt: &HostRuntime) -> Result<Kind, Stop> {
+    match next_byte(rt) {
+        Ok(byte) => Kind::try_from(byte),
+        Err(_) => Err(Stop::End),
     }
 }
 
@@ -294,31 +256,30 @@ pub fn read_request(
     integers: &mut [i32],
     floats: &mut [f64],
     room: &mut [u8],
-) -> Request
-    ensures { (result.template ≤ 5000) × (result.second ≤ 5000) × (result.list ≤ 64) × (result.room ≤ 1024) }
+) -> Result<Request, Stop>
+    ensures { IfOk result (λ r. (r.template ≤ 5000) × (r.second ≤ 5000) × (r.list ≤ 64) × (r.room ≤ 1024)) }
 {
-    let kind = next_byte(rt);
-    let family = read_family(rt, kind);
-    let t = read_part(rt, template);
-    let s = read_second(rt, kind, second);
-    let bounds = read_bounds(rt, kind);
-    let n = read_list(rt, kind, family, integers, floats);
-    let r = read_room(rt, kind, room);
-    within_bounds(kind, family, t, s, bounds, n, r)
+    let kind = next_kind(rt)?;
+    let family = read_family(rt, kind)?;
+    let t = read_part(rt, template, ASKED_TEMPLATE_MOST)?;
+    let s = read_second(rt, kind, second)?;
+    let bounds = read_bounds(rt, kind)?;
+    let n = read_list(rt, kind, family, integers, floats)?;
+    let r = read_room(rt, kind, room)?;
+    Ok(Request {
+        kind,
+        family,
+        template: t,
+        second: s,
+        bounds,
+        list: n,
+        room: r,
+    })
 }
 
 // Writes the bytes to standard output. Where it takes no more, the rest goes unseen.
 fn write(rt: &HostRuntime, bytes: &[u8]) {
     let _ = rt.stdout().write_all(bytes);
-}
-
-fn print(rt: &HostRuntime, byte: u8) {
-    let one = [byte];
-    write(rt, &one);
-}
-
-fn print_decimal(rt: &HostRuntime, value: u64) {
-    let _ = print!(rt; "{value}");
 }
 
 // The digit of the low four bits.
@@ -331,10 +292,10 @@ fn hex_digit(byte: u8) -> u8 {
     }
 }
 
-// All of the bytes in hexadecimal, `-` where there is none, and the end of the line. No room has more than 1,024 bytes: the second test
-// only says so to the proof.
+// All of the bytes in hexadecimal, `-` where there is none, and the end of the line, by one write: a `print!` for each byte would be a write
+// for each. No room has more than 1,024 bytes: the second test only says so to the proof.
 fn print_room(rt: &HostRuntime, room: &[u8]) {
-    if room.len() == 0 {
+    if room.is_empty() {
         write(rt, b"-\n");
         return;
     }
@@ -342,62 +303,44 @@ fn print_room(rt: &HostRuntime, room: &[u8]) {
         return;
     }
     let mut line = [b'\n'; 2049];
-    let mut i: usize = 0;
-    while i < room.len() {
-        let byte = room[i];
-        line[2 * i] = hex_digit(byte / 16);
-        line[2 * i + 1] = hex_digit(byte);
-        i += 1;
+    for (i, byte) in room.iter().enumerate() {
+        line[2 * i] = hex_digit(*byte / 16);
+        line[2 * i + 1] = hex_digit(*byte);
     }
-    write(rt, &line[..2 * i + 1]);
+    write(rt, &line[..2 * room.len() + 1]);
 }
 
 // Eight digits of the mask, `-` where no group is given, and the end of the line.
 fn print_group(rt: &HostRuntime, group: u32) {
     if group == 0 {
-        print(rt, b'-');
-    } else {
-        let _ = print!(rt; "{group:08x}");
+        write(rt, b"-\n");
+        return;
     }
-    print(rt, b'\n');
+    let _ = println!(rt; "{group:08x}");
 }
 
-fn print_bad(rt: &HostRuntime) {
+// Says that the input goes on with no request.
+pub fn print_bad(rt: &HostRuntime) {
     write(rt, b"bad\n");
 }
 
-// What stands behind the number in the line of a good request.
-fn print_rest(rt: &HostRuntime, kind: usize, answer: Answer, room: &[u8]) {
-    if kind == JUDGE {
-        print(rt, b'\n');
-        return;
+// Prints the line of the answer to a request.
+pub fn print_line(rt: &HostRuntime, answer: Answer, room: &[u8]) {
+    match answer {
+        Answer::Match(number) => {
+            let _ = print!(rt; "{number} ");
+            print_room(rt, room);
+        }
+        Answer::Judgement(number) => {
+            let _ = println!(rt; "{number}");
+        }
+        Answer::Form(number, length) => {
+            let _ = print!(rt; "{number} {length} ");
+            print_room(rt, room);
+        }
+        Answer::Reason(number, group) => {
+            let _ = print!(rt; "{number} ");
+            print_group(rt, group);
+        }
     }
-    print(rt, b' ');
-    if kind == WHY_NOT {
-        print_group(rt, answer.group);
-        return;
-    }
-    if is_of_type(kind) {
-        print_decimal(rt, answer.length as u64);
-        print(rt, b' ');
-    }
-    print_room(rt, room);
-}
-
-fn is_good(kind: usize) -> bool {
-    (kind == MATCH) | (kind == JUDGE) | is_of_type(kind) | (kind == WHY_NOT)
-}
-
-// Prints the line of the answer to a request of this kind, none where the input ends, and says whether another request may follow.
-pub fn print_answer(rt: &HostRuntime, kind: usize, answer: Answer, room: &[u8]) -> bool {
-    if kind == ABSENT {
-        return false;
-    }
-    if !is_good(kind) {
-        print_bad(rt);
-        return false;
-    }
-    print_decimal(rt, answer.number as u64);
-    print_rest(rt, kind, answer, room);
-    true
 }
