@@ -2,7 +2,7 @@
 // Where it can't read, or can't print, it says so on standard error.
 #![tactic(auto)]
 
-ghost use Rattle.std.specs.Prelude.{◌≡◌, true, ◌+◌, ◌*◌, ◌≤◌, length, min, take};
+ghost use Rattle.std.specs.Prelude.{◌≡◌, ◌+◌, ◌*◌, ◌≤◌, length, min, take, IfOk};
 ghost use Rattle.std.specs.Option.{unwrap_or};
 ghost use Rattle.std.specs.Result.{is_err, result_ok};
 
@@ -34,50 +34,42 @@ fn output_buffer() -> [u8; 327941]
     [0; 327941]
 }
 
-// How many bytes were read to the front of a buffer, and whether reading failed before the input ended.
-#[derive(Drop)]
-struct Taken {
-    n: usize,
-    failed: bool,
-}
+// Reading failed before the input ended.
+#[derive(Clone, Copy)]
+struct Unread;
 
 // What an answer of `read` says of the part that it was to fill: an error is a failure, 0 the end of the input.
-fn taken_by(got: io::Result<usize>, part: &[u8]) -> Taken
-    ensures { (result.n ≡ min (unwrap_or (result_ok got) 0) (length part.now)) × (result.failed ≡ is_err got) }
+fn taken_by(got: io::Result<usize>, part: &[u8]) -> Result<usize, Unread>
+    ensures number { IfOk result (λ n. n ≡ min (unwrap_or (result_ok got) 0) (length part.now)) }
+    ensures failed { is_err result ≡ is_err got }
 {
     match got {
-        Ok(n) => Taken {
-            n: n.min(part.len()),
-            failed: false,
-        },
-        Err(_) => Taken { n: 0, failed: true },
+        Ok(n) => Ok(n.min(part.len())),
+        Err(_) => Err(Unread),
     }
 }
 
-// Reads once. No byte is read at the end of the input, and where reading fails.
-fn read_once(rt: &HostRuntime, part: &mut [u8]) -> Taken
-    ensures { (result.n ≤ length part.new) × (result.failed ≡ true → result.n ≡ 0) }
+// Reads once. No byte is read at the end of the input.
+fn read_once(rt: &HostRuntime, part: &mut [u8]) -> Result<usize, Unread>
+    ensures { IfOk result (λ n. n ≤ length part.new) }
 {
     let got = rt.stdin().read(part);
     taken_by(got, part)
 }
 
-// Reads until the input ends, reading fails or the buffer is full.
-fn read_input(rt: &HostRuntime, buf: &mut [u8]) -> Taken
-    ensures { (result.n ≤ length buf.new) × (result.n ≡ length (take result.n buf.new)) }
+// Reads until the input ends or the buffer is full, and says how many bytes stand at its front.
+fn read_input(rt: &HostRuntime, buf: &mut [u8]) -> Result<usize, Unread>
+    ensures { IfOk result (λ n. (n ≤ length buf.new) × (n ≡ length (take n buf.new))) }
 {
     let mut n: usize = 0;
     while n < buf.len() {
-        let more = read_once(rt, &mut buf[n..]);
-        if more.n == 0 {
-            return Taken {
-                n,
-                failed: more.failed,
-            };
+        let more = read_once(rt, &mut buf[n..])?;
+        if more == 0 {
+            break;
         }
-        n += more.n;
+        n += more;
     }
-    Taken { n, failed: false }
+    Ok(n)
 }
 
 // Says on standard error what went wrong. Where that can't be written either, nothing is left to say it to.
@@ -97,12 +89,10 @@ fn print_output(rt: &HostRuntime, input: &[u8], out: &mut [u8])
 
 fn main(rt: HostRuntime) {
     let mut buffer = input_buffer();
-    let taken = read_input(&rt, &mut buffer);
-    if taken.failed {
+    let Ok(n) = read_input(&rt, &mut buffer) else {
         complain(&rt, b"intake: standard input can't be read\n");
         return;
-    }
-    let n = taken.n;
+    };
     if n <= SHORT {
         let mut out = large_buffer();
         print_output(&rt, &buffer[..n], &mut out);
