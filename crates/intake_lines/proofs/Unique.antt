@@ -1,7 +1,7 @@
 -- The promises of the public functions allow one result each, every byte of the buffer included, stated of the contracts themselves.
 -- Assumes nothing.
 use mathlib.Core.Path.{◌≡◌, refl, sym, ap, ap₂, subst, ◌∙◌}
-use mathlib.Core.Bool.{Bool}
+use mathlib.Core.Bool.{Bool, true}
 use mathlib.Core.List.{List, [], ◌∷◌}
 use Prim.Native.Nat.{ℕ, ◌-◌}
 use native.Mathlib.Omega.{arith}
@@ -16,7 +16,14 @@ use Rattle.lines.proofs.Unique.{same_bytes_lem, same_count}
 use Rattle.stream.specs.Input.{reached}
 use Rattle.facts.proofs.Slices.{same_place}
 use Rattle.intake_lines.specs.Output.{Turn, stop, go}
-use Rattle.intake_lines.specs.Contract.{Headed, refused, found, Turned, stopped, went}
+use Rattle.std.specs.declared.option.Option.{Option}
+use Rattle.std.specs.declared.option.Option.TheVariants.{Some, None}
+use Rattle.std.specs.declared.result.Result.{Result}
+use Rattle.std.specs.declared.result.Result.TheVariants.{Ok, Err}
+use Rattle.std.specs.Option.{is_some, unwrap_or}
+use Rattle.std.specs.Result.{MatchResult}
+use Rattle.facts.proofs.Cases.{clash}
+use Rattle.intake_lines.specs.Contract.{Headed, Refused, refused, found, Turned, stopped, went}
 use Rattle.intake_lines.specs.declared.Progress.{Progress}
 use Rattle.intake_lines.specs.declared.Opened.{Opened}
 use Rattle.plans.specs.Plans.{no_plan, PlanOf}
@@ -27,8 +34,8 @@ use Rattle.intake_lines.proofs.open_input.Kinds as open-input-kinds
 use Rattle.intake_lines.proofs.answer_next.Reads as answer-next
 use Rattle.intake_lines.proofs.answer_next.Kinds as answer-next-kinds
 
-abbrev made : ℕ → ℕ → Bool → Progress
-made wrote next more = record { wrote = wrote; next = next; more = more }
+abbrev made : ℕ → Option ℕ → Progress
+made wrote next = record { wrote = wrote; next = next }
 
 pub record Same (after after' : List ℕ) (wrote wrote' next next' : ℕ) (more more' : Bool) : Type 0 where
   pub bytes : after ≡ after'
@@ -89,24 +96,34 @@ module _ (u : Turn) (input : List ℕ) (at : ℕ) (before after after' : List �
         again = m ∙ sym m';
       }
 
-made_same : (wrote wrote' next next' : ℕ) (more more' : Bool) → wrote ≡ wrote' → next ≡ next' → more ≡ more' → made wrote next more ≡ made wrote' next' more'
-made_same wrote wrote' next next' more more' p q r = ap₂ (λ (w n : ℕ). made w n more) p q ∙ ap (λ (m : Bool). made wrote' next' m) r
+made_same : (wrote wrote' at : ℕ) (next next' : Option ℕ) → wrote ≡ wrote' → unwrap_or next at ≡ unwrap_or next' at → is_some next ≡ is_some next' → made wrote next ≡ made wrote' next'
+made_same wrote wrote' at None None p q r = ap (λ (w : ℕ). made w None) p
+made_same wrote wrote' at None (Some n') p q r = absurd (clash r refl)
+made_same wrote wrote' at (Some n) None p q r = absurd (clash refl r)
+made_same wrote wrote' at (Some n) (Some n') p q r = ap₂ (λ (w m : ℕ). made w (Some m)) p q
 
 -- how an input begins is one, but for the places of the plan
-pub record SameOpened (r r' : Opened) : Type 0 where
-  pub wrote : r.wrote ≡ r'.wrote
-  pub next : r.next ≡ r'.next
-  pub more : r.more ≡ r'.more
-  pub plan : SamePlan r.plan r'.plan
+pub SameOpened : Result Opened ℕ → Result Opened ℕ → Type 0
+SameOpened (Ok o) (Ok o') = (o.next ≡ o'.next) × SamePlan o.plan o'.plan
+SameOpened (Ok o) (Err w) = ⊥
+SameOpened (Err w) (Ok o) = ⊥
+SameOpened (Err w) (Err w') = w ≡ w'
+
+opened_same : (s before after after' : List ℕ) (r r' : Result Opened ℕ)
+    → MatchResult r (λ o. Headed s before after 0 o.next true o.plan) (λ wrote. Refused s before after wrote)
+    → MatchResult r' (λ o. Headed s before after' 0 o.next true o.plan) (λ wrote. Refused s before after' wrote) → SameOpened r r' × (after ≡ after')
+unfolding SameOpened
+opened_same s before after after' (Ok o) (Ok o') p q = let u = headed_unique _ _ _ _ _ _ _ _ _ _ _ _ p q in ((u.0.place, u.1), u.0.bytes)
+opened_same s before after after' (Ok o) (Err w) p q = let u = headed_unique _ _ _ _ _ _ _ _ _ _ _ _ p q.headed in absurd (clash refl u.0.again)
+opened_same s before after after' (Err w) (Ok o) p q = let u = headed_unique _ _ _ _ _ _ _ _ _ _ _ _ p.headed q in absurd (clash u.0.again refl)
+opened_same s before after after' (Err w) (Err w') p q = let u = headed_unique _ _ _ _ _ _ _ _ _ _ _ _ p.headed q.headed in (u.0.count, u.0.bytes)
 
 pub open_input_unique : (κs : Lfts 2) (a : Dens κs open-input-kinds.ps) (r r' : (res_t open-input-kinds.r κs).Denot) (s s' : AtExit (ended_of 2 open-input-kinds.ps open-input-kinds.r) κs)
     → open-input.Post κs a r s → open-input.Post κs a r' s' → SameOpened r r' × (s.1.0.now ≡ s'.1.0.now)
-open_input_unique κs a r r' s s' p q =
-    let u = headed_unique _ _ _ _ _ _ _ _ _ _ _ _ p q in
-    (record { wrote = u.0.count; next = u.0.place; more = u.0.again; plan = u.1 }, u.0.bytes)
+open_input_unique κs a r r' s s' p q = opened_same _ _ _ _ r r' p q
 
 pub answer_next_unique : (κs : Lfts 3) (a : Dens κs answer-next-kinds.ps) (r r' : (res_t answer-next-kinds.r κs).Denot) (s s' : AtExit (ended_of 3 answer-next-kinds.ps answer-next-kinds.r) κs)
     → answer-next.Post κs a r s → answer-next.Post κs a r' s' → (r ≡ r') × (s.1.1.1.1.1.0.now ≡ s'.1.1.1.1.1.0.now)
 answer_next_unique κs a r r' s s' p q =
     let u = turned_unique _ _ _ _ _ _ _ _ _ _ _ _ p q in
-    (made_same _ _ _ _ _ _ u.count u.place u.again, u.bytes)
+    (made_same _ _ _ _ _ u.count u.place u.again, u.bytes)

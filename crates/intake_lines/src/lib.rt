@@ -1,12 +1,12 @@
 // What the program prints, line by line: first the input is opened, which prints the refusal of the whole input or nothing, then each list is answered.
 #![tactic(auto)]
 
-ghost use Rattle.std.specs.Prelude.{◌≤◌, length, drop};
+ghost use Rattle.std.specs.Prelude.{◌≤◌, true, length, drop, is_some, unwrap_or, MatchResult};
 ghost use Rattle.lines.specs.Contract.{LineFits, Wrote};
 ghost use Rattle.format.specs.declared.Family.{Family};
 ghost use Rattle.plans.specs.Plans.{PlanOf};
 ghost use Rattle.intake_lines.specs.Output.{list_line, turn};
-ghost use Rattle.intake_lines.specs.Contract.{InputPlan, Headed, StepFits, Turned};
+ghost use Rattle.intake_lines.specs.Contract.{InputPlan, Headed, Refused, StepFits, Turned};
 
 use format::{DONE, Family, INPUT_MOST, MISSING, TEMPLATE, TEMPLATE_SIZE, TOO_LONG};
 use lines::put_line;
@@ -33,44 +33,34 @@ fn input_plan(input: &[u8]) -> Plan
     plan_of(&input[TEMPLATE_SIZE..end], Family::Integers)
 }
 
-// How an input begins: how many bytes were written, the place of the first list, whether there is a first turn, and the plan of its template.
-#[derive(Drop)]
+// The lists of an input: the place of the first one, and the plan of the template.
+#[derive(Clone, Copy)]
 pub struct Opened {
-    pub wrote: usize,
     pub next: usize,
-    pub more: bool,
     pub plan: Plan,
 }
 
-// The line of a refused input, or the place of the first list and the plan for all of them: the template stands from 3 to there.
-pub fn open_input(input: &[u8], out: &mut [u8]) -> Opened
+// The place of the first list and the plan for all of them: the template stands from 3 to there. Of a refused input the line is written, and the error
+// says how many bytes it has.
+pub fn open_input(input: &[u8], out: &mut [u8]) -> Result<Opened, usize>
     requires { 256 ≤ length out.old }
-    ensures { Headed input.now out.old out.new result.wrote result.next result.more result.plan }
+    ensures { MatchResult result (λ o. Headed input.now out.old out.new 0 o.next true o.plan) (λ wrote. Refused input.now out.old out.new wrote) }
 {
     let plan = input_plan(input);
     if plan.number != DONE {
-        let wrote = put_line(out, 0, plan.number, 0, &input[..0]);
-        return Opened {
-            wrote,
-            next: 0,
-            more: false,
-            plan,
-        };
+        return Err(put_line(out, 0, plan.number, 0, &input[..0]));
     }
-    Opened {
-        wrote: 0,
+    Ok(Opened {
         next: template_end(input),
-        more: true,
         plan,
-    }
+    })
 }
 
-// How far a call came: how many bytes it wrote, the place of the next list, and whether there is a next turn.
-#[derive(Drop)]
+// How far a call came: how many bytes it wrote, and the place of the next list, where there is a next turn.
+#[derive(Clone, Copy)]
 pub struct Progress {
     pub wrote: usize,
-    pub next: usize,
-    pub more: bool,
+    pub next: Option<usize>,
 }
 
 // Puts the line of the list xs, which has this number, in front of the buffer, and says how many bytes it has.
@@ -99,24 +89,19 @@ pub fn answer_next(
     out: &mut [u8],
 ) -> Progress
     requires { PlanOf Family.Integers template.now plan × StepFits at number input.now out.old }
-    ensures { Turned (turn template.now number (drop at input.now)) input.now at out.old out.new result.wrote result.next result.more }
+    ensures { Turned (turn template.now number (drop at input.now)) input.now at out.old out.new result.wrote (unwrap_or result.next at) (is_some result.next) }
 {
     if at == input.len() {
         return Progress {
             wrote: 0,
-            next: at,
-            more: false,
+            next: None,
         };
     }
     let list = match read_list(input, at) {
         Ok(list) => list,
         Err(code) => {
             let wrote = put_line(out, number, code, 0, &input[..0]);
-            return Progress {
-                wrote,
-                next: at,
-                more: false,
-            };
+            return Progress { wrote, next: None };
         }
     };
     let n = list.n;
@@ -124,7 +109,6 @@ pub fn answer_next(
     let wrote = put_answer(template, plan, &xs[..n], number, out);
     Progress {
         wrote,
-        next: list.next,
-        more: true,
+        next: Some(list.next),
     }
 }

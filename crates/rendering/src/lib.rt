@@ -24,10 +24,10 @@ fn put_lists(template: &[u8], plan: Plan, input: &[u8], first: usize, out: &mut 
     loop {
         let turn = answer_next(template, plan, input, at, number, &mut out[filled..]);
         filled += turn.wrote;
-        if !turn.more {
+        let Some(next) = turn.next else {
             return filled;
-        }
-        at = turn.next;
+        };
+        at = next;
         number += 1;
     }
 }
@@ -37,11 +37,14 @@ pub fn render(input: &[u8], out: &mut [u8]) -> usize
     requires { 5 * length input.now + 256 ≤ length out.old }
     ensures { Wrote (output input.now) out.old out.new result }
 {
-    let head = open_input(input, out);
-    if !head.more {
-        return head.wrote;
+    match open_input(input, out) {
+        Ok(lists) => put_lists(
+            &input[TEMPLATE_SIZE..lists.next],
+            lists.plan,
+            input,
+            lists.next,
+            out,
+        ),
+        Err(wrote) => wrote,
     }
-    let lists = head.next;
-    let plan = head.plan;
-    put_lists(&input[TEMPLATE_SIZE..lists], plan, input, lists, out)
 }
