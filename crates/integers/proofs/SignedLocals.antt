@@ -64,14 +64,8 @@ least_yes (negsuc n) p e = ap negsuc (omega arith)
 
 -- ---- neighbours, as the code computes them
 
-pub next_word : (z : ℤ) → Word z → rank z < 4294967295 → Word (again z +ℤ pos 1)
-next_word z p q = rw (again_same z p) (word_next z p q)
-
 pub next_same : (z : ℤ) → Word z → rank z < 4294967295 → again (again z +ℤ pos 1) ≡ z +ℤ pos 1
 next_same z p q = rw (again_same z p) (again_same (z +ℤ pos 1) (word_next z p q))
-
-pub prev_word : (z : ℤ) → Word z → 0 < rank z → Word (again z -ℤ pos 1)
-prev_word z p q = rw (again_same z p) (word_prev z p q)
 
 pub prev_same : (z : ℤ) → Word z → 0 < rank z → again (again z -ℤ pos 1) ≡ z -ℤ pos 1
 prev_same z p q = rw (again_same z p) (again_same (z -ℤ pos 1) (word_prev z p q))

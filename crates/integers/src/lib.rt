@@ -5,35 +5,25 @@ ghost use Rattle.std.specs.Prelude.{◌≡◌, ◌&&◌, ◌++◌, ◌+◌, ◌�
 ghost use Rattle.std.specs.Int.Signed.{le_z};
 ghost use Rattle.integers.specs.Integer.{joined, signed, bits_at, int_at, bits, int_bytes, eq_z};
 
-use format::LEAST;
-
 // The number that four bytes say with no sign.
 pub fn join_bytes(b0: u8, b1: u8, b2: u8, b3: u8) -> u32
     ensures { result ≡ joined b0 b1 b2 b3 }
 {
-    (b0 as u32) | (b1 as u32) << 8 | (b2 as u32) << 16 | (b3 as u32) << 24
+    u32::from_le_bytes([b0, b1, b2, b3])
 }
 
-// The integer whose bits are those of u. No cast loses a bit: each is of a number below 2 ^ 31.
+// The integer whose bits are those of u.
 pub fn to_signed(u: u32) -> i32
     ensures { result ≡ signed u }
 {
-    if u < 0x8000_0000 {
-        u as i32
-    } else {
-        -1 - ((0xffff_ffff - u) as i32)
-    }
+    u.cast_signed()
 }
 
 // The bits of x.
 pub fn to_bits(x: i32) -> u32
     ensures { result ≡ bits x }
 {
-    if x < 0 {
-        (x - LEAST) as u32 + 0x8000_0000
-    } else {
-        x as u32
-    }
+    x.cast_unsigned()
 }
 
 // The number that the four bytes of s from `at` on say with no sign.
@@ -57,11 +47,7 @@ pub fn put_int(out: &mut [u8], x: i32)
     requires { 4 ≤ length out.old }
     ensures { out.new ≡ int_bytes x ++ drop 4 out.old }
 {
-    let u = to_bits(x);
-    out[0] = (u % 256) as u8;
-    out[1] = ((u >> 8) % 256) as u8;
-    out[2] = ((u >> 16) % 256) as u8;
-    out[3] = ((u >> 24) % 256) as u8;
+    out[..4].copy_from_slice(&to_bits(x).to_le_bytes());
 }
 
 // Whether a is b.

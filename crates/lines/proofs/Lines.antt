@@ -6,7 +6,7 @@ use native.Mathlib.Omega.{arith}
 use native.Mathlib.Numerals.{add-one}
 use native.Mathlib.Nat.{add-zero}
 use lib.ListN.{length, take, drop, get_or, set, length-append, length-set, take-append-drop}
-use lib.Seq.{take-suc, take_all}
+use lib.Seq.{take-suc}
 use Rattle.lines.specs.Line.{decimal, space_then, spaced, line}
 use Rattle.lines.specs.Contract.{placed, Wrote}
 use Rattle.lines.proofs.Places.{placed_set, placed_then, length_placed, placed_front}
@@ -122,15 +122,6 @@ module _ (o w : List ℕ) (at : ℕ) (fits : at + 4 * length w ≤ length o) whe
           few = omega arith;
           inside = omega arith;
         }
-
-    whole : Each o w at o' p i → length w ≤ i → take i w ≡ w
-    whole e done = take_all i w done
-
-    pub each_bytes : Each o w at o' p i → length w ≤ i → o' ≡ placed at (spaced w) o
-    each_bytes e done = e.bytes ∙ ap (λ (l : List ℕ). placed at (spaced l) o) (whole e done)
-
-    pub each_place : Each o w at o' p i → length w ≤ i → p ≡ at + length (spaced w)
-    each_place e done = e.place ∙ ap (λ (l : List ℕ). at + length (spaced l)) (whole e done)
 
 pub length_spaced : (w : List ℕ) → ((i : ℕ) → i < length w → get_or w i 0 < 256) → length (spaced w) ≤ 4 * length w
 unfolding spaced

@@ -19,9 +19,6 @@ pub record Cutting (n : ℕ) (los his : List ℤ) (lo hi : ℤ) (w k : ℕ) (all
   pub long_high_lem : n ≤ length his
   pub whole : view w los his ++ cut_to lo hi (drop k (view n los his)) ≡ all
 
-pub cutting_start : (n : ℕ) (los his : List ℤ) (lo hi : ℤ) → n ≤ length los → n ≤ length his → Cutting n los his lo hi 0 0 (cut_to lo hi (view n los his))
-cutting_start n los his lo hi p q = record { behind = omega arith; inside = omega arith; long_low_lem = p; long_high_lem = q; whole = refl }
-
 cut_out : (lo hi a b : ℤ) (rs : List Span) → (lt_z b lo || lt_z hi a) ≡ true → cut_to lo hi (span a b ∷ rs) ≡ cut_to lo hi rs
 unfolding cut_to
 cut_out lo hi a b rs e = rw e

@@ -7,9 +7,9 @@ use native.Mathlib.Omega.{arith}
 use native.Mathlib.Numerals.{add-one}
 use native.Mathlib.Nat.{pos_of_ne-zero}
 use lib.Dec.{ltb, eqb}
-use lib.ListN.{length, get_or, take, drop, set, length-drop, length-set, length-replicate}
+use lib.ListN.{length, get_or, take, drop, set, length-drop, length-set}
 use lib.Seq.{get_or-drop, drop-drop, drop-set-lt, take-suc-set}
-use lib.IntN.{ℤ, pos}
+use lib.IntN.{ℤ}
 use borrow.Author.Tests.{ltb-false, lt-ltb, le-ltb, eq-eqb, ne_eqb, eqb-true, eqb-false}
 use Rattle.integers.specs.Integer.{int_at}
 use Rattle.facts.proofs.Cases.{by-test}
@@ -64,10 +64,6 @@ abbrev pub prefixed : List ℤ → Read (List ℤ) → Read (List ℤ)
 prefixed ys (refuse r) = refuse r
 prefixed ys (got xs s) = got (ys ++ xs) s
 
-prefixed_none : (o : Read (List ℤ)) → o ≡ prefixed [] o
-prefixed_none (refuse r) = refl
-prefixed_none (got xs s) = refl
-
 prefixed_more : (ys : List ℤ) (x : ℤ) (o : Read (List ℤ)) → prefixed ys (put_integer x o) ≡ prefixed (ys ++ (x ∷ [])) o
 unfolding put_integer
 prefixed_more ys x (refuse r) = refl
@@ -91,11 +87,6 @@ pub record Reading (t : List ℕ) (at n : ℕ) (xs : List ℤ) (p i : ℕ) : Typ
   pub goes : integers n (drop at t) ≡ prefixed (take i xs) (integers (n - i) (drop p t))
 
 module _ (t : List ℕ) (at n : ℕ) where
-  pub reading_start : (xs : List ℤ) → at ≤ length t → xs ≡ zeros 32 → Reading t at n xs at 0
-  reading_start xs h none =
-      let all : n ≡ n - 0 = omega arith in
-      record { inside = h; few = omega arith; size = ap length none ∙ length-replicate {A = ℤ} 32 (pos 0); rest = none; goes = prefixed_none (integers n (drop at t)) ∙ ap (λ (j : ℕ). prefixed [] (integers j (drop at t))) all }
-
   module _ (xs : List ℤ) (p i : ℕ) where
     pub reading_stop : Reading t at n xs p i → i < n → (r : ℕ) → r ≡ record_fault 0x01 5 (drop p t) → (r ≡ 0 → ⊥)
         → Listed t (integers n (drop at t)) r 0 0 (zeros 32)
