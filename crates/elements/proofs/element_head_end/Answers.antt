@@ -1,5 +1,5 @@
 -- The kind says which record it is. Assumes nothing.
-use Rattle.std.proofs.Common.{sym, ◌∙◌, arith}
+use Rattle.std.proofs.Common.{sym, arith}
 use Rattle.elements.proofs.Records.{fault_said, head_none, group_head_lem, leaf_head_lem}
 use Rattle.elements.proofs.element_head_end.Goals as goal
 
