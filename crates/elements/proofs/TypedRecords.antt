@@ -11,7 +11,7 @@ use lib.ListN.{length, get_or, drop}
 use borrow.Author.Tests.{eq-eqb, ne_eqb}
 use Rattle.format.specs.declared.Family.{Family}
 use Rattle.integers.specs.Integer.{least, greatest, signed}
-use Rattle.grammar.specs.Record.{fault, leaf_here, group, head}
+use Rattle.grammar.specs.Record.{fault, leaf_here, head}
 use Rattle.grammar.specs.Leaf.{Leaf, lower_of, upper_of, leaf_head, reaches, of_type, typed_head}
 use Rattle.grammar.specs.FloatLeaf.{float_head}
 use Rattle.grammar.specs.Family.{LeafOf, leaves_in}

@@ -2,12 +2,12 @@
 // read, or above FAULT the number of the refusal.
 #![tactic(auto)]
 
-ghost use Rattle.std.specs.Prelude.{◌≡◌, Bool, true, ◌+◌, ◌<◌, ◌≤◌, length, get_or, drop};
+ghost use Rattle.std.specs.Prelude.{◌≡◌, Bool, true, List, ℕ, ◌+◌, ◌<◌, ◌≤◌, length, get_or, drop};
 ghost use Rattle.format.specs.declared.Family.{Family};
 ghost use Rattle.grammar.specs.Leaf.{leaf_head, typed_head};
 ghost use Rattle.grammar.specs.FloatLeaf.{float_head};
 ghost use Rattle.grammar.specs.Family.{LeafOf};
-ghost use Rattle.grammar.specs.Record.{count_fault, group_head, head};
+ghost use Rattle.grammar.specs.Record.{Head, count_fault, group_head, head};
 ghost use Rattle.grammar.specs.Reading.{outermost, read_element};
 ghost use Rattle.sorts.specs.Sorts.{lower_of, upper_of, leaves_for};
 ghost use Rattle.elements.specs.Contract.{Place, group_kind, HeadAt, From, ScannedAll, Ended, Answered};
@@ -95,7 +95,7 @@ fn integer_end(t: &[u8], at: usize) -> usize
     refusal(BAD_KIND)
 }
 
-// The place after the leaf of the float family at `at`, or its fault.
+// The place after the leaf of the float family at `at`, or its fault. No generic one with `integer_end`: the order of the tests is all they share.
 fn float_end(t: &[u8], at: usize) -> usize
     requires { (at < length t.now) × (length t.now < 65536) }
     ensures { HeadAt t.now at (float_head (drop at t.now)) result }
@@ -130,10 +130,11 @@ fn float_end(t: &[u8], at: usize) -> usize
     refusal(BAD_KIND)
 }
 
-// The place after the record of an element template of the integer family at `at`, or its own fault.
-pub fn integer_head_end(t: &[u8], at: usize) -> usize
-    requires { Place t.now at }
-    ensures { HeadAt t.now at (head leaf_head (drop at t.now)) result }
+// The place after the record of an element template at `at`, or its own fault, where `leaf_end` says that of a leaf.
+fn element_head_end<F: Fn(&[u8], usize) -> usize>(t: &[u8], at: usize, leaf_end: F) -> usize
+    requires place { Place t.now at }
+    requires callable { at < length t.now → F.pre leaf_end t at }
+    ensures { (f : Family) (leaves : List ℕ → Head (LeafOf f)) → ((r : ℕ) → F.post leaf_end t.entry at r → HeadAt t.now at (leaves (drop at t.now)) r) → HeadAt t.now at (head leaves (drop at t.now)) result }
 {
     if at == t.len() {
         return refusal(MISSING);
@@ -141,7 +142,15 @@ pub fn integer_head_end(t: &[u8], at: usize) -> usize
     if is_group(t[at]) {
         return group_head_end(t, at);
     }
-    integer_end(t, at)
+    leaf_end(t, at)
+}
+
+// The same of the integer family.
+pub fn integer_head_end(t: &[u8], at: usize) -> usize
+    requires { Place t.now at }
+    ensures { HeadAt t.now at (head leaf_head (drop at t.now)) result }
+{
+    element_head_end(t, at, integer_end)
 }
 
 // The same of the float family.
@@ -149,13 +158,7 @@ fn float_head_end(t: &[u8], at: usize) -> usize
     requires { Place t.now at }
     ensures { HeadAt t.now at (head float_head (drop at t.now)) result }
 {
-    if at == t.len() {
-        return refusal(MISSING);
-    }
-    if is_group(t[at]) {
-        return group_head_end(t, at);
-    }
-    float_end(t, at)
+    element_head_end(t, at, float_end)
 }
 
 // The place after the record of an element template of integers of a type, or its own fault. What a leaf says is read once more only here.

@@ -3,7 +3,7 @@
 
 ghost use Rattle.std.specs.Prelude.{◌≡◌, ◌+◌, ◌*◌, ◌≤◌, length};
 ghost use Rattle.std.specs.Float.{binary64};
-ghost use Rattle.std.specs.Float.Ieee.{is_nan as is_nan_of, nan_bits, of_bits};
+ghost use Rattle.std.specs.Float.Ieee.{nan_bits, of_bits};
 ghost use Rattle.floats.specs.Bytes.{float_at};
 ghost use Rattle.floats.specs.Leaves.{one_fault, bounds_fault, float_matches};
 
@@ -39,12 +39,12 @@ fn is_nan_pattern(u: u64) -> bool
     0x7ff0_0000_0000_0000 < u % 0x8000_0000_0000_0000
 }
 
-// The float with these bits. A NaN is made by a division: a pattern of a NaN is no float's in Rattle.
+// The float with these bits. A pattern of a NaN is no float's in Rattle.
 fn from_pattern(u: u64) -> f64
     ensures { result ≡ of_bits binary64 u }
 {
     if is_nan_pattern(u) {
-        return 0.0 / 0.0;
+        return f64::NAN;
     }
     f64::from_bits(u)
 }
@@ -57,18 +57,11 @@ pub fn float_at(s: &[u8], at: usize) -> f64
     from_pattern(join_halves(bits_at(s, at), bits_at(s, at + 4)))
 }
 
-// Whether x is a NaN: it, and nothing else, is not equal to itself.
-fn is_nan(x: f64) -> bool
-    ensures { result ≡ is_nan_of x }
-{
-    x != x
-}
-
 // The fault of a 06 with this float, or 0.
 pub fn one_fault(x: f64) -> u8
     ensures { result ≡ one_fault x }
 {
-    if is_nan(x) { NOT_A_NUMBER } else { DONE }
+    if x.is_nan() { NOT_A_NUMBER } else { DONE }
 }
 
 // The fault of a 07 with these bounds, or 0.
@@ -77,7 +70,7 @@ pub fn bounds_fault(b: Bounds) -> u8
 {
     let lower = b.lower;
     let upper = b.upper;
-    if is_nan(lower) | is_nan(upper) {
+    if lower.is_nan() | upper.is_nan() {
         return NOT_A_NUMBER;
     }
     if upper < lower {

@@ -26,6 +26,7 @@ pub struct Heads {
     pub code: u8,
     pub next: usize,
     pub plain: bool,
+    // No `Option` of a pair: the specs and the law of `heads_of` are stated of these three, and `no_heads` alone writes the bounds of no attribute.
     pub given: bool,
     pub min: u8,
     pub max: u8,
@@ -110,16 +111,10 @@ fn sheet_head(t: &[u8], family: Family) -> Heads
     if code != DONE {
         return refused_heads(code);
     }
-    let none = no_heads(family);
-    let sort = none.sort;
     Heads {
-        code: DONE,
         next: SHEET_SIZE,
         plain: t[1] == PLAIN_SHEET,
-        given: none.given,
-        min: none.min,
-        max: none.max,
-        sort,
+        ..no_heads(family)
     }
 }
 
@@ -136,15 +131,12 @@ fn length_head(t: &[u8], h: Heads) -> Heads
     if code != DONE {
         return refused_heads(code);
     }
-    let sort = h.sort;
     Heads {
-        code: DONE,
         next: at + BOUNDS_SIZE,
-        plain: h.plain,
         given: true,
         min: t[at + 1],
         max: t[at + 2],
-        sort,
+        ..h
     }
 }
 
@@ -162,11 +154,8 @@ fn type_head(t: &[u8], h: Heads) -> Heads
     Heads {
         code: DONE,
         next: at + TYPE_SIZE,
-        plain: h.plain,
-        given: h.given,
-        min: h.min,
-        max: h.max,
         sort,
+        ..h
     }
 }
 

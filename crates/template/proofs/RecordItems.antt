@@ -1,11 +1,12 @@
 -- The items of a record of, one after another, with the numbers of their blocks. Assumes nothing.
 use mathlib.Core.Path.{◌≡◌, refl, sym, ap, ap₂, ◌∙◌, subst}
 use mathlib.Core.List.{List, [], ◌∷◌, ◌++◌, append_assoc, append-nil}
-use Prim.Native.Nat.{ℕ, zero, suc, ◌+◌, ◌-◌, ◌*◌, ◌≤◌, ◌<◌}
+use Prim.Native.Nat.{ℕ, suc, ◌+◌, ◌-◌, ◌*◌, ◌≤◌, ◌<◌}
 use native.Mathlib.Omega.{arith}
 use lib.IntN.{ℤ}
 use lib.ListN.{length, drop, take, set, replicate, length-append}
 use lib.Seq.{set_at}
+use Rattle.std.proofs.lemmas.List.{take_at}
 use Rattle.grammar.specs.Template.{grouped, Item, one, spares, permutation, members_of_group, members_of_item, members_of_items, members_of}
 use Rattle.format.specs.declared.Family.{Family}
 use Rattle.grammar.specs.Family.{LeafOf, leaves_in}
@@ -31,12 +32,6 @@ number_stored vs k v e l =
     ∙ set_at vs 0 (replicate (31 - k) 0) v k e
     ∙ sym (append_assoc vs (v ∷ []) (replicate (31 - k) 0))
     ∙ ap (λ (j : ℕ). (vs ++ v ∷ []) ++ replicate j 0) (sym m)
-
-taken : (n : ℕ) (vs us : List ℕ) → length vs ≡ n → take n (vs ++ us) ≡ vs
-taken zero [] us e = refl
-taken zero (v ∷ vs) us e = absurd (omega arith)
-taken (suc n) [] us e = absurd (omega arith)
-taken (suc n) (v ∷ vs) us e = ap (λ (l : List ℕ). v ∷ l) (taken n vs us (omega arith))
 
 -- the block's k is how many members the item has
 item_counts : (fam : Family) (m : ℕ) (i : Item (LeafOf fam)) → (block_of_item m i).k ≡ length (members_of_item i)
@@ -154,7 +149,7 @@ module _ {fam : Family} {lo hi : ℤ} {t : List ℕ} {at n : ℕ} {before places
       (record {
         named = refl;
         count = sym long ∙ sym (length_blocks_in g.made) ∙ ap length w.2.says;
-        cut = ap (λ (l : List ℕ). blocks_in (take n l)) g.stored ∙ ap blocks_in (taken n g.made (replicate (32 - k) 0) long) ∙ w.2.says;
+        cut = ap (λ (l : List ℕ). blocks_in (take n l)) g.stored ∙ ap blocks_in (take_at g.made (replicate (32 - k) 0) n long) ∙ w.2.says;
         stored = g.stored ∙ ap₂ (λ (l : List ℕ) (j : ℕ). l ++ replicate (32 - j) 0) w.2.cut turns;
         size = count ∙ sym w.2.placed.counts ∙ omega arith;
         stands = subst (λ (j : ℕ). Standing fam t (members_of_items w.0) (take j places)) (sym count) (w.2.placed.stands [] tt);

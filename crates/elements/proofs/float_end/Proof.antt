@@ -6,12 +6,6 @@ use Rattle.elements.proofs.FloatRecords.{one_short, one_fault_lem, one_right, bo
 use borrow.Author.Rules.{rules}
 use Rattle.elements.proofs.float_end.Statement.{statement}
 use Rattle.elements.proofs.float_end.Tie as tie
-use Rattle.elements.proofs.float_end.Reads as reads
-use Rattle.elements.proofs.float_end.Lts as lts
-use Rattle.elements.proofs.refusal.Reads as refusal-reads
-use Rattle.floats.proofs.bounds_fault.Reads as bounds-fault-reads
-use Rattle.floats.proofs.float_at.Reads as float-at-reads
-use Rattle.floats.proofs.one_fault.Reads as one-fault-reads
 
 -- two floats that were read, as bounds
 two : (a b p q : Float) → a ≡ p → b ≡ q → ◌≡◌ {A = Bounds} (record { lower = a; upper = b }) (record { lower = p; upper = q })

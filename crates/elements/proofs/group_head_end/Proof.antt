@@ -3,10 +3,6 @@ use Rattle.elements.proofs.Records.{group_fault, group_right}
 use borrow.Author.Rules.{rules}
 use Rattle.elements.proofs.group_head_end.Statement.{statement}
 use Rattle.elements.proofs.group_head_end.Tie as tie
-use Rattle.elements.proofs.group_head_end.Reads as reads
-use Rattle.elements.proofs.group_head_end.Lts as lts
-use Rattle.elements.proofs.count_fault.Reads as count-fault-reads
-use Rattle.elements.proofs.refusal.Reads as refusal-reads
 
 count_fault_requires : tie.Need-count_fault-code-requires
 count_fault_requires c κs = search rules

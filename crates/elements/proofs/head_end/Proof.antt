@@ -3,10 +3,6 @@ use Rattle.elements.proofs.TypedRecords.{sort_whole}
 use borrow.Author.Rules.{rules}
 use Rattle.elements.proofs.head_end.Statement.{statement}
 use Rattle.elements.proofs.head_end.Tie as tie
-use Rattle.elements.proofs.head_end.Reads as reads
-use Rattle.elements.proofs.head_end.Lts as lts
-use Rattle.elements.proofs.integer_head_end.Reads as integer-head-end-reads
-use Rattle.elements.proofs.other_record_end.Reads as other-record-end-reads
 
 integer_head_end_requires : tie.Need-integer_head_end-requires
 integer_head_end_requires c κs = search rules

@@ -4,10 +4,6 @@ use Rattle.elements.proofs.Records.{single_short, single_right, range_short, ran
 use borrow.Author.Rules.{rules}
 use Rattle.elements.proofs.integer_end.Statement.{statement}
 use Rattle.elements.proofs.integer_end.Tie as tie
-use Rattle.elements.proofs.integer_end.Reads as reads
-use Rattle.elements.proofs.integer_end.Lts as lts
-use Rattle.elements.proofs.refusal.Reads as refusal-reads
-use Rattle.integers.proofs.int_at.Reads as int-at-reads
 
 shared_slice_read_kind : tie.Need-bounds-t-at
 shared_slice_read_kind c = search rules

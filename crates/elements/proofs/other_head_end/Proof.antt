@@ -3,10 +3,6 @@ use Rattle.elements.proofs.TypedRecords.{sort_floats, sort_typed}
 use borrow.Author.Rules.{rules}
 use Rattle.elements.proofs.other_head_end.Statement.{statement}
 use Rattle.elements.proofs.other_head_end.Tie as tie
-use Rattle.elements.proofs.other_head_end.Reads as reads
-use Rattle.elements.proofs.other_head_end.Lts as lts
-use Rattle.elements.proofs.float_head_end.Reads as float-head-end-reads
-use Rattle.elements.proofs.typed_head_end.Reads as typed-head-end-reads
 
 float_head_end_requires : tie.Need-float_head_end-requires
 float_head_end_requires c κs = search rules

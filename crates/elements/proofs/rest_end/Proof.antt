@@ -8,10 +8,6 @@ use Prim.Native.Nat.{◌+◌}
 use borrow.Author.Rules.{rules}
 use Rattle.elements.proofs.rest_end.Statement.{statement}
 use Rattle.elements.proofs.rest_end.Tie as tie
-use Rattle.elements.proofs.rest_end.Reads as reads
-use Rattle.elements.proofs.rest_end.Lts as lts
-use Rattle.elements.proofs.is_group.Reads as is-group-reads
-use Rattle.elements.proofs.scan_all.Reads as scan-all-reads
 
 shared_slice_read_is_group : tie.Need-bounds-t-at
 shared_slice_read_is_group c =

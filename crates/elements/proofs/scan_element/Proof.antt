@@ -1,15 +1,11 @@
 -- `elements::scan_element` meets its contract. Assumes nothing.
 use native.Mathlib.Omega.{arith}
-use Rattle.grammar.specs.Reading.{uncounted, read_element}
+use Rattle.grammar.specs.Reading.{read_element}
 use Rattle.elements.proofs.Scans.{head_stops, head_ended, noted_small}
 use Rattle.elements.proofs.WholeInputs.{too_long_lem, answer_refused, answer_left_over, answer_accepted, uncounted_ended}
 use borrow.Author.Rules.{rules}
 use Rattle.elements.proofs.scan_element.Statement.{statement}
 use Rattle.elements.proofs.scan_element.Tie as tie
-use Rattle.elements.proofs.scan_element.Reads as reads
-use Rattle.elements.proofs.scan_element.Lts as lts
-use Rattle.elements.proofs.head_end.Reads as head-end-reads
-use Rattle.elements.proofs.rest_end.Reads as rest-end-reads
 
 returns : tie.Need-returns-then-t-gt-TEMPLATE_MOST
 unfolding read_element

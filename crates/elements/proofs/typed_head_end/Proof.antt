@@ -10,12 +10,6 @@ use Rattle.elements.proofs.TypedRecords.{typed_fault, typed_plain, leaf_here_lem
 use borrow.Author.Rules.{rules}
 use Rattle.elements.proofs.typed_head_end.Statement.{statement}
 use Rattle.elements.proofs.typed_head_end.Tie as tie
-use Rattle.elements.proofs.typed_head_end.Reads as reads
-use Rattle.elements.proofs.typed_head_end.Lts as lts
-use Rattle.elements.proofs.integer_head_end.Reads as integer-head-end-reads
-use Rattle.elements.proofs.refusal.Reads as refusal-reads
-use Rattle.leaves.proofs.bounds_at.Reads as bounds-at-reads
-use Rattle.sorts.proofs.reaches.Reads as reaches-reads
 
 integer_head_end_requires : tie.Need-integer_head_end-end-requires
 integer_head_end_requires c κs = search rules

@@ -5,11 +5,6 @@ use Rattle.heads.proofs.HeadRecords.{few_counted, body_counts, own_none, own_low
 use borrow.Author.Rules.{rules}
 use Rattle.heads.proofs.body_fault.Statement.{statement}
 use Rattle.heads.proofs.body_fault.Tie as tie
-use Rattle.heads.proofs.body_fault.Reads as reads
-use Rattle.heads.proofs.body_fault.Lts as lts
-use Rattle.elements.proofs.count_fault.Reads as count-fault-reads
-use Rattle.heads.proofs.fewest_items.Reads as fewest-items-reads
-use Rattle.heads.proofs.length_clashes.Reads as length-clashes-reads
 
 returns : tie.Need-returns-then-at-t
 returns c =

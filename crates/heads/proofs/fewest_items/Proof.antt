@@ -2,8 +2,6 @@
 use borrow.Author.Tests.{lt-ltb, le-ltb}
 use Rattle.heads.proofs.fewest_items.Statement.{statement}
 use Rattle.heads.proofs.fewest_items.Tie as tie
-use Rattle.heads.proofs.fewest_items.Reads as reads
-use Rattle.heads.proofs.fewest_items.Lts as lts
 
 returns : tie.Need-returns-then-kind-lt-SUPERSET
 returns c = rw (lt-ltb c.args.kind 18 c.if-kind-lt-SUPERSET.true)

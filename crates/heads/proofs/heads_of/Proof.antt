@@ -3,11 +3,6 @@ use Rattle.heads.proofs.HeadRecords.{heads_none}
 use borrow.Author.Rules.{rules}
 use Rattle.heads.proofs.heads_of.Statement.{statement}
 use Rattle.heads.proofs.heads_of.Tie as tie
-use Rattle.heads.proofs.heads_of.Reads as reads
-use Rattle.heads.proofs.heads_of.Lts as lts
-use Rattle.heads.proofs.no_heads.Reads as no-heads-reads
-use Rattle.heads.proofs.some_heads.Reads as some-heads-reads
-use Rattle.items.proofs.record.kind_at.Reads as kind-at-reads
 
 kind_at_requires : tie.Need-kind_at-requires
 kind_at_requires c κs = search rules

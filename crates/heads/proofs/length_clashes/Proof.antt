@@ -3,8 +3,6 @@ use borrow.Author.Tests.{not-true, not-false}
 use Rattle.heads.proofs.HeadRecords.{clashes_never, clashes_is}
 use Rattle.heads.proofs.length_clashes.Statement.{statement}
 use Rattle.heads.proofs.length_clashes.Tie as tie
-use Rattle.heads.proofs.length_clashes.Reads as reads
-use Rattle.heads.proofs.length_clashes.Lts as lts
 
 returns : tie.Need-returns-then-not-heads
 returns c = let h = c.args.heads in clashes_never _ h.given h.min h.max _ _ (not-true _ c.if-not-heads.true)

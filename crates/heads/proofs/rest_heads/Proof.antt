@@ -5,12 +5,6 @@ use Rattle.heads.proofs.HeadRecords.{type_none, type_never, heads_inside, heads_
 use borrow.Author.Rules.{rules}
 use Rattle.heads.proofs.rest_heads.Statement.{statement}
 use Rattle.heads.proofs.rest_heads.Tie as tie
-use Rattle.heads.proofs.rest_heads.Reads as reads
-use Rattle.heads.proofs.rest_heads.Lts as lts
-use Rattle.heads.proofs.has_types.Reads as has-types-reads
-use Rattle.heads.proofs.length_head.Reads as length-head-reads
-use Rattle.heads.proofs.type_head.Reads as type-head-reads
-use Rattle.items.proofs.record.kind_at.Reads as kind-at-reads
 
 length_head_requires : tie.Need-length_head-g-requires
 length_head_requires c κs = search rules

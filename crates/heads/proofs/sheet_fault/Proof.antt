@@ -3,8 +3,6 @@ use Rattle.heads.proofs.HeadRecords.{sheet_short, sheet_tested}
 use borrow.Author.Rules.{rules}
 use Rattle.heads.proofs.sheet_fault.Statement.{statement}
 use Rattle.heads.proofs.sheet_fault.Tie as tie
-use Rattle.heads.proofs.sheet_fault.Reads as reads
-use Rattle.heads.proofs.sheet_fault.Lts as lts
 
 returns : tie.Need-returns-then-t-lt-SHEET_SIZE
 returns c = sheet_short c.args.t.now c.if-t-lt-SHEET_SIZE.true

@@ -4,10 +4,6 @@ use Rattle.heads.proofs.HeadRecords.{begun, heads_stop, heads_go}
 use borrow.Author.Rules.{rules}
 use Rattle.heads.proofs.some_heads.Statement.{statement}
 use Rattle.heads.proofs.some_heads.Tie as tie
-use Rattle.heads.proofs.some_heads.Reads as reads
-use Rattle.heads.proofs.some_heads.Lts as lts
-use Rattle.heads.proofs.rest_heads.Reads as rest-heads-reads
-use Rattle.heads.proofs.sheet_head.Reads as sheet-head-reads
 
 sheet_head_requires : tie.Need-sheet_head-h-requires
 sheet_head_requires c κs = search rules

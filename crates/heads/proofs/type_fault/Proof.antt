@@ -4,9 +4,6 @@ use Rattle.heads.proofs.HeadRecords.{type_short, type_reversed, type_sound}
 use borrow.Author.Rules.{rules}
 use Rattle.heads.proofs.type_fault.Statement.{statement}
 use Rattle.heads.proofs.type_fault.Tie as tie
-use Rattle.heads.proofs.type_fault.Reads as reads
-use Rattle.heads.proofs.type_fault.Lts as lts
-use Rattle.integers.proofs.int_at.Reads as int-at-reads
 
 sub_if1 : tie.Need-overflow_sub-t
 sub_if1 c = search rules

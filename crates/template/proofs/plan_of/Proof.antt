@@ -16,12 +16,6 @@ use Rattle.template.proofs.Bodies.{contents_small, contents_refused, contents_le
 use borrow.Author.Rules.{rules}
 use Rattle.template.proofs.plan_of.Statement.{statement}
 use Rattle.template.proofs.plan_of.Tie as tie
-use Rattle.template.proofs.plan_of.Reads as reads
-use Rattle.template.proofs.plan_of.Lts as lts
-use Rattle.template.proofs.body.contents_end.Reads as contents-end-reads
-use Rattle.heads.proofs.body_fault.Reads as body-fault-reads
-use Rattle.heads.proofs.heads_of.Reads as heads-of-reads
-use Rattle.template.proofs.no_plan.Reads as no-plan-reads
 
 counted_record : (kind n : ℕ) → kind ≡ 0x10 → block_count kind n ≡ n
 counted_record kind n e = rw (eq-eqb kind 0x10 e)

@@ -13,9 +13,6 @@ use Rattle.plans.specs.declared.Plan.{Plan}
 use borrow.Author.Rules.{rules}
 use Rattle.template.proofs.scan_template.Statement.{statement}
 use Rattle.template.proofs.scan_template.Tie as tie
-use Rattle.template.proofs.scan_template.Reads as reads
-use Rattle.template.proofs.scan_template.Lts as lts
-use Rattle.template.proofs.plan_of.Reads as plan-of-reads
 
 plan_answered : (fam : Family) (t : List ℕ) (p : Plan) → PlanOf fam t p → Answered (read_template fam t) p.number
 plan_answered fam t p (refused_plan number q l e) = let same : p.number ≡ number = ap (λ (x : Plan). x.number) e in rejected (q ∙ ap refuse (sym same)) (omega arith)

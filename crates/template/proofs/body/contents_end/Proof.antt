@@ -4,10 +4,6 @@ use Rattle.sorts.specs.Sorts.{family_of, lower_of, upper_of}
 use borrow.Author.Rules.{rules}
 use Rattle.template.proofs.body.contents_end.Statement.{statement}
 use Rattle.template.proofs.body.contents_end.Tie as tie
-use Rattle.template.proofs.body.contents_end.Reads as reads
-use Rattle.template.proofs.body.contents_end.Lts as lts
-use Rattle.template.proofs.body.items_end.Reads as items-end-reads
-use Rattle.template.proofs.body.set_end.Reads as set-end-reads
 
 items_end_requires : tie.Need-items_end-requires
 items_end_requires c κs = search rules

@@ -1,8 +1,8 @@
 -- Each item adds its members and its block, or is the end. Assumes nothing.
-use Rattle.std.proofs.Common.{refl, ap, ◌+◌, arith, rules}
+use Rattle.std.proofs.Common.{refl, ap, ◌+◌, arith}
 use Rattle.sorts.specs.Sorts.{family_of, lower_of, upper_of}
 use Rattle.blocks.specs.declared.Block.{Block}
-use Rattle.template.proofs.RecordItems.{ItemsGoing, items_start, items_stop, items_more, items_end}
+use Rattle.template.proofs.RecordItems.{items_start, items_stop, items_more, items_end}
 use Rattle.template.proofs.body.items_end.Goals as goal
 
 pub loop-k-init : goal.loop-k-init

@@ -9,11 +9,6 @@ use Rattle.sorts.specs.Sorts.{family_of, lower_of, upper_of}
 use borrow.Author.Rules.{rules}
 use Rattle.template.proofs.body.set_end.Statement.{statement}
 use Rattle.template.proofs.body.set_end.Tie as tie
-use Rattle.template.proofs.body.set_end.Reads as reads
-use Rattle.template.proofs.body.set_end.Lts as lts
-use Rattle.blocks.proofs.block_of.Reads as block-of-reads
-use Rattle.blocks.proofs.number_of.Reads as number-of-reads
-use Rattle.items.proofs.group.group_end.Reads as group-end-reads
 
 group_end_requires : tie.Need-group_end-end-requires
 group_end_requires c κs = search rules
