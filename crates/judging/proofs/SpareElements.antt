@@ -13,7 +13,7 @@ use Rattle.facts.specs.Counting.{between}
 use Rattle.facts.proofs.Cases.{same?, below, clash, and_left, and_right, one_of, or_left, or_right}
 use Rattle.facts.proofs.Spans.{between_from, between_to}
 use Rattle.facts.proofs.Slices.{slice_at}
-use Rattle.masks.specs.Masks.{bit, Plus}
+use Rattle.masks.specs.Masks.{bit}
 use Rattle.masks.proofs.Masks.{bit_none}
 use Rattle.blocks.specs.declared.Block.{Block}
 use Rattle.blocks.specs.Pieces.{Takes}
@@ -24,22 +24,6 @@ use Rattle.judging.specs.Reach.{any_pair, SparesOf, OneOn, Blank, Along, Extende
 
 pub spares_none : (w : List ℕ) → SparesOf w 0 0
 spares_none w = record { only = λ e h. absurd (clash h (bit_none e)); all = λ e l. absurd (omega arith) }
-
-module _ (w : List ℕ) (n spares : ℕ) (g : SparesOf w n spares) where
-  pub spares_more : {more : ℕ} → get_or w n 0 ≡ 255 → Plus (bit spares) n (bit more) → SparesOf w (n + 1) more
-  spares_more {more} q p = record {
-    only = λ e h. ⊎_elim
-        (λ (z : e ≡ n). (omega arith, ap (λ (j : ℕ). get_or w j 0) z ∙ q))
-        (λ (z : e ≡ n → ⊥). let o = g.only e (sym (p.other e z) ∙ h) in (omega (arith, o.0), o.1))
-        (same? e n);
-    all = λ e l q. ⊎_elim (λ (z : e ≡ n). rw z p.self) (λ (z : e ≡ n → ⊥). p.other e z ∙ g.all e (omega arith) q) (same? e n);
-  }
-
-  pub spares_same : (get_or w n 0 ≡ 255 → ⊥) → SparesOf w (n + 1) spares
-  spares_same d = record {
-    only = λ e h. let o = g.only e h in (omega (arith, o.0), o.1);
-    all = λ e l q. ⊎_elim (λ (z : e ≡ n). absurd (d (subst (λ (j : ℕ). get_or w j 0 ≡ 255) z q))) (λ (z : e ≡ n → ⊥). g.all e (omega arith) q) (same? e n);
-  }
 
 -- ---- one element on
 

@@ -4,13 +4,15 @@ use mathlib.Core.Logic.{⊎_elim}
 use mathlib.Core.Bool.{Bool, true, false, not, ◌&&◌}
 use Prim.Native.Nat.{ℕ, zero, suc, ◌+◌, ◌-◌, ◌*◌, ◌/◌, ◌%◌, ◌^◌, ◌≤◌, ◌<◌}
 use native.Mathlib.Omega.{arith}
-use lib.Dec.{leb, ltb}
-use lib.Bits.{bit_and, bit_xor}
-use borrow.Author.Tests.{le-leb, lt-leb, lt-ltb, le-ltb}
+use lib.Dec.{leb, ltb, eqb}
+use lib.Pow.{pow_pos}
+use native.Mathlib.Nat.{pow-suc}
+use lib.Bits.{bit_and}
+use borrow.Author.Tests.{le-leb, lt-leb, lt-ltb, le-ltb, eqb-true, eqb-false, eq-eqb, ne_eqb}
 use Rattle.masks.specs.Masks.{bit}
-use Rattle.facts.proofs.Cases.{below, clash, not_so}
+use Rattle.facts.proofs.Cases.{by-test, below, clash, not_so}
 use Rattle.facts.proofs.Spans.{between_in}
-use Rattle.masks.proofs.Masks.{odd, bit_and_lem, bit_xor_lem, bit_past, bit_none, ones_bits, bit_inside}
+use Rattle.masks.proofs.Masks.{bit_and_lem, bit_past, bit_none, ones_bits, bit_inside, bit_low, bit_half}
 use Rattle.masks.proofs.Shifted.{bit_shr, bit_shl, bit_shl_low, bit_cut}
 
 pub bit_outside : (n x e : ℕ) → x < 2 ^ n → n ≤ e → bit x e ≡ false
@@ -74,14 +76,26 @@ cut_from n x p e l = moved_up n (x / 2 ^ p) p e ∙ ⊎_elim
 pub bit_ones : (n e : ℕ) → e < n → bit (2 ^ n - 1) e ≡ true
 bit_ones n e l = ones_bits n e ∙ between_in 0 n e (omega arith) l
 
-not_odd : (a b : Bool) → (a && odd b true) ≡ (a && not b)
-not_odd true true = refl
-not_odd true false = refl
-not_odd false true = refl
-not_odd false false = refl
+-- ---- the places that a mask has not
+other_digit : (x y : ℕ) → x + y ≡ 1 → eqb x 1 ≡ not (eqb y 1)
+other_digit x y s = by-test (eqb y 1)
+    (λ h. let z = eqb-true y 1 h in ne_eqb x 1 (λ q. omega arith) ∙ sym (ap not h))
+    (λ h. let z = eqb-false y 1 h in eq-eqb x 1 (omega arith) ∙ sym (ap not h))
 
-pub without_bits : (n a b e : ℕ) → a < 2 ^ n → bit (bit_and a (bit_xor (2 ^ n - 1) b)) e ≡ (bit a e && not (bit b e))
-without_bits n a b e l = bit_and_lem a (bit_xor (2 ^ n - 1) b) e ∙ ⊎_elim
-    (λ (k : e < n). ap (λ t. bit a e && t) (bit_xor_lem (2 ^ n - 1) b e ∙ ap (λ t. odd (bit b e) t) (bit_ones n e k)) ∙ not_odd (bit a e) (bit b e))
-    (λ (k : n ≤ e). ap (λ t. t && bit (bit_xor (2 ^ n - 1) b) e) (bit_outside n a e l k) ∙ sym (ap (λ t. t && not (bit b e)) (bit_outside n a e l k)))
+bit_not : (n b e : ℕ) → b < 2 ^ n → e < n → bit (2 ^ n - 1 - b) e ≡ not (bit b e)
+bit_not zero b e l k = absurd (omega arith)
+bit_not (suc n) b zero l k =
+    let p = pow-suc 2 n in
+    let q = pow_pos n in
+    bit_low (2 ^ suc n - 1 - b) ∙ other_digit ((2 ^ suc n - 1 - b) % 2) (b % 2) (omega arith) ∙ sym (ap not (bit_low b))
+bit_not (suc n) b (suc e) l k =
+    let p = pow-suc 2 n in
+    let q = pow_pos n in
+    let half : (2 ^ suc n - 1 - b) / 2 ≡ 2 ^ n - 1 - b / 2 = omega arith in
+    bit_half (2 ^ suc n - 1 - b) e ∙ ap (λ (x : ℕ). bit x e) half ∙ bit_not n (b / 2) e (omega arith) (omega arith) ∙ sym (ap not (bit_half b e))
+
+pub without_bits : (n a b e : ℕ) → a < 2 ^ n → b < 2 ^ n → bit (bit_and a (2 ^ n - 1 - b)) e ≡ (bit a e && not (bit b e))
+without_bits n a b e l m = bit_and_lem a (2 ^ n - 1 - b) e ∙ ⊎_elim
+    (λ (k : e < n). ap (λ t. bit a e && t) (bit_not n b e m k))
+    (λ (k : n ≤ e). ap (λ t. t && bit (2 ^ n - 1 - b) e) (bit_outside n a e l k) ∙ sym (ap (λ t. t && not (bit b e)) (bit_outside n a e l k)))
     (below e n)

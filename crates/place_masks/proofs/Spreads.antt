@@ -21,12 +21,6 @@ before_none least most never = record { some = λ p h. absurd (clash h (bit_none
 pub after_none : {places : ℕ} (least most : ℕ) → ((e : ℕ) → e < 64 → Behind places least most e → ⊥) → After places least most 0
 after_none least most never = record { some = λ e h. absurd (clash h (bit_none e)); all = λ e l h. absurd (never e l h); low = λ e h. absurd (clash h (bit_none e)) }
 
-pub before_start : (places : ℕ) → Before places 0 0 places
-before_start places = record {
-  some = λ p h. record { place = p; here = h; near = omega arith; far = omega arith };
-  all = λ p h. let n = h.near in let f = h.far in subst (λ (z : ℕ). bit places z ≡ true) (let q : h.place ≡ p = omega arith in q) h.here;
-}
-
 pub after_start : (places : ℕ) → places < 2 ^ 64 → After places 0 0 places
 after_start places l = record {
   some = λ e h. record { place = e; here = h; near = omega arith; far = omega arith };

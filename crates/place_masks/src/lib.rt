@@ -49,8 +49,10 @@ pub fn in_either(a: u64, b: u64) -> u64
 pub fn left_out(a: u64, b: u64) -> u64
     ensures { (e : ℕ) → bit result e ≡ (bit a e && not (bit b e)) }
 {
-    a & (EVERYWHERE ^ b)
+    a & !b
 }
+
+// `lowest` and `highest` of 64 bits: two functions each, for the reason that `masks` gives at `has_place`.
 
 // The least of the places, of which there is one.
 pub fn lowest_place(places: u64) -> usize
@@ -65,7 +67,7 @@ pub fn highest_place(places: u64) -> usize
     requires { 0 < places }
     ensures { Highest 64 places result }
 {
-    63 - u64::leading_zeros(places) as usize
+    u64::ilog2(places) as usize
 }
 
 // Each place s elements nearer to the start; those before that fall away.
@@ -83,6 +85,8 @@ pub fn moved_up(places: u64, s: usize) -> u64
 {
     places << s
 }
+
+// What follows is there twice, down and up. One function for both is no plainer: with the side as an argument each body is a choice between two, and so is each contract and lemma.
 
 // All places up to the greatest.
 fn all_below(places: u64) -> u64

@@ -1,17 +1,14 @@
 -- The numbers of plain blocks: that of the block j is 256 + j. Assumes nothing.
-use mathlib.Core.Path.{◌≡◌, refl, sym, ap, ◌∙◌}
-use mathlib.Core.Bool.{Bool, true, ◌&&◌}
-use mathlib.Core.Logic.{⊎_elim}
+use mathlib.Core.Path.{◌≡◌, sym, ap, ◌∙◌}
+use mathlib.Core.Bool.{Bool}
 use mathlib.Core.List.{List}
 use Prim.Native.Nat.{ℕ, ◌+◌, ◌/◌, ◌%◌, ◌<◌}
 use native.Mathlib.Omega.{arith}
 use borrow.Author.Tests.{eqb-true, eq-eqb}
 use lib.Dec.{eqb}
-use lib.ListN.{get_or}
-use Rattle.facts.proofs.Cases.{same?, clash, and_left, and_right, both}
+use Rattle.facts.proofs.Cases.{clash}
 use Rattle.blocks.specs.declared.Block.{Block}
 use Rattle.blocks.specs.Numbers.{block, number_of, block_in}
-use Rattle.blocks.proofs.FirstLists.{passing_holds}
 use Rattle.blocks.proofs.BlockNumbers.{block_in_number_of}
 use Rattle.blocks.specs.Pieces.{Passing}
 use Rattle.plain.specs.Plain.{Plain}
@@ -35,24 +32,6 @@ block_number v j f q =
 -- the flag says whether the blocks before j are plain
 pub record Looked (vs : List ℕ) (j : ℕ) (plain : Bool) : Type 0 where
   pub passes : Passing (Plain j vs) plain
-
-pub looked_start : (vs : List ℕ) → Looked vs 0 true
-looked_start vs = record { passes = record { passed = λ h. record { at = λ i l. absurd (omega arith) }; failed = λ h. absurd (clash refl h) } }
-
-pub looked_step : (vs : List ℕ) (j : ℕ) (plain one : Bool) → Passing (block_in (get_or vs j 0) ≡ block j 1 0 0) one → Looked vs j plain → Looked vs (j + 1) (plain && one)
-looked_step vs j plain one h g = record {
-  passes = record {
-    passed = λ t. record {
-      at = λ i l. ⊎_elim
-          (λ (z : i ≡ j). rw z (h.passed (and_right plain one t)))
-          (λ (z : i ≡ j → ⊥). (g.passes.passed (and_left plain one t)).at i (omega arith))
-          (same? i j);
-    };
-    failed = λ f p. clash
-        (both plain one (passing_holds g.passes (record { at = λ i l. p.at i (omega arith) })) (passing_holds h (p.at j (omega arith))))
-        f;
-  };
-}
 
 -- the number says so
 pub member_number : (v m : ℕ) → m < 32 → v < 4294967296 → Passing (block_in v ≡ block m 1 0 0) (eqb v (256 + m))

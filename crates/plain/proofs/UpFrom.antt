@@ -1,19 +1,14 @@
 -- Numbers one after the other. Assumes nothing.
--- up_length: how many they are. up_at: the one at a place. up_take: written into bytes one after the other. Counted, counted-*: bytes looked
+-- up_length: how many they are. up_at: the one at a place. up_take: written into bytes one after the other. Counted, counted_end: bytes looked
 -- at one after the other.
 use mathlib.Core.Path.{◌≡◌, refl, sym, ap, ◌∙◌}
-use mathlib.Core.Bool.{Bool, ◌&&◌}
-use mathlib.Core.Logic.{⊎_elim}
+use mathlib.Core.Bool.{Bool}
 use mathlib.Core.List.{List}
 use Prim.Native.Nat.{ℕ, zero, suc, ◌+◌, ◌≤◌, ◌<◌}
 use native.Mathlib.Omega.{arith}
-use borrow.Author.Tests.{eqb-true, eq-eqb}
-use lib.Dec.{eqb}
 use lib.ListN.{length, get_or, take}
 use lib.Seq.{ext_get_or, get_or-take, length-take-le}
-use Rattle.facts.proofs.Cases.{same?, clash, and_left, and_right, both}
 use Rattle.blocks.specs.Pieces.{Passing}
-use Rattle.blocks.proofs.FirstLists.{passing_holds}
 use Rattle.plain.specs.Plain.{up_from}
 
 pub up_length : (m k : ℕ) → length (up_from m k) ≡ k
@@ -35,25 +30,6 @@ up_take n w l h =
 -- the flag says whether there are `count` bytes, and those before e are their own places
 pub record Counted (w : List ℕ) (count e : ℕ) (up : Bool) : Type 0 where
   pub passes : Passing ((length w ≡ count) × ((i : ℕ) → i < e → get_or w i 0 ≡ i)) up
-
-pub counted_start : (w : List ℕ) (count : ℕ) → Counted w count 0 (eqb (length w) count)
-counted_start w count = record {
-  passes = record {
-    passed = λ h. (eqb-true (length w) count h, λ i l. absurd (omega arith));
-    failed = λ h q. clash (eq-eqb (length w) count q.0) h;
-  };
-}
-
-pub counted_step : (w : List ℕ) (count e : ℕ) (up : Bool) → Counted w count e up → Counted w count (e + 1) (up && eqb (get_or w e 0) e)
-counted_step w count e up g = record {
-  passes = record {
-    passed = λ h.
-        let before = g.passes.passed (and_left up (eqb (get_or w e 0) e) h) in
-        let here = eqb-true (get_or w e 0) e (and_right up (eqb (get_or w e 0) e) h) in
-        (before.0, λ i l. ⊎_elim (λ (z : i ≡ e). rw z here) (λ (z : i ≡ e → ⊥). before.1 i (omega arith)) (same? i e));
-    failed = λ h q. clash (both up (eqb (get_or w e 0) e) (passing_holds g.passes (q.0, λ i l. q.1 i (omega arith))) (eq-eqb (get_or w e 0) e (q.1 e (omega arith)))) h;
-  };
-}
 
 pub counted_end : (w : List ℕ) (count e : ℕ) (up : Bool) → e ≡ length w → Counted w count e up → Passing (w ≡ up_from 0 count) up
 counted_end w count e up z g = record {

@@ -1,8 +1,8 @@
 -- One sweep over the elements, and sweeps until nothing is added. Assumes nothing.
--- sweep_start, sweep_spare, sweep_apart, sweep_owner, sweep_done: one sweep, element by element.
+-- sweep_spare, sweep_apart, sweep_owner: one sweep, element by element.
 -- grow_start, grow_more: one sweep more. turns_fall: the sweeps come to an end.
 use mathlib.Core.Path.{◌≡◌, refl, sym, ap, ◌∙◌, subst}
-use mathlib.Core.Logic.{◌⊎◌, inl, inr, ⊎_elim}
+use mathlib.Core.Logic.{◌⊎◌, inr, ⊎_elim}
 use mathlib.Core.Bool.{Bool, true, false, not}
 use mathlib.Core.List.{List}
 use Prim.Native.Nat.{ℕ, ◌+◌, ◌-◌, ◌≤◌, ◌<◌}
@@ -26,9 +26,6 @@ pub record Sweeping (rows : List ℕ) (n : ℕ) (w : List ℕ) (G e r : ℕ) : T
   pub least : (C : ℕ → Bool) → HeldClosed (may rows) n w C → ((v : ℕ) → bit G v ≡ true → C v ≡ true) → (v : ℕ) → bit r v ≡ true → C v ≡ true
   pub passed : (i : ℕ) → i < e → (v : ℕ) → bit G v ≡ true → may rows v i ≡ true → get_or w i 0 < 32 → bit r (get_or w i 0) ≡ true
   pub bigger : (r ≡ G) ⊎ (count (bit G) 32 < count (bit r) 32)
-
-pub sweep_start : {rows : List ℕ} {n : ℕ} {w : List ℕ} {G : ℕ} → Sweeping rows n w G 0 G
-sweep_start = record { grew = λ v t. t; least = λ C c up. up; passed = λ i l. absurd (omega arith); bigger = inl refl }
 
 module _ {rows : List ℕ} {n : ℕ} {w : List ℕ} {G e r : ℕ} (s : Sweeping rows n w G e r) where
   further : ((v : ℕ) → bit G v ≡ true → may rows v e ≡ true → get_or w e 0 < 32 → bit r (get_or w e 0) ≡ true) → Sweeping rows n w G (e + 1) r
@@ -77,14 +74,6 @@ module _ {rows : List ℕ} {n : ℕ} {w : List ℕ} {G e r : ℕ} (s : Sweeping 
           (λ (q : v ≡ get_or w e 0). subst (λ (y : ℕ). bit x y ≡ true) (sym q) p.self)
           (λ (q : v ≡ get_or w e 0 → ⊥). p.other v q ∙ t)
           (same? v (get_or w e 0))
-
-pub sweep_done : {rows : List ℕ} {n : ℕ} {w : List ℕ} {G R : ℕ} → Sweeping rows n w G n R → Swept (may rows) n w G R
-sweep_done {rows} {n} {w} {G} {R} s = record {
-  grew = s.grew;
-  least = s.least;
-  full = λ q v t e l o z. subst (λ (y : ℕ). bit y (get_or w e 0) ≡ true) q (s.passed e l v t o z);
-  bigger = s.bigger;
-}
 
 -- ---- sweeps until nothing is added
 pub record Growing (rows : List ℕ) (n : ℕ) (w : List ℕ) (U G : ℕ) (more : Bool) : Type 0 where

@@ -1,0 +1,8 @@
+-- `has_place`: a shift and a remainder are what `bit` says.
+use Rattle.std.proofs.Common.{refl}
+use Rattle.masks.specs.Masks.{bit}
+use Rattle.masks.proofs.has_place.Goals as goal
+
+pub returns : goal.returns
+unfolding bit
+returns c = refl
