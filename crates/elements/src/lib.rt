@@ -95,7 +95,7 @@ fn integer_end(t: &[u8], at: usize) -> usize
     refusal(BAD_KIND)
 }
 
-// The place after the leaf of the float family at `at`, or its fault. No generic one with `integer_end`: the order of the tests is all they share.
+// The place after the leaf of the float family at `at`, or its fault.
 fn float_end(t: &[u8], at: usize) -> usize
     requires { (at < length t.now) × (length t.now < 65536) }
     ensures { HeadAt t.now at (float_head (drop at t.now)) result }

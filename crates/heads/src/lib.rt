@@ -26,7 +26,6 @@ pub struct Heads {
     pub code: u8,
     pub next: usize,
     pub plain: bool,
-    // No `Option` of a pair: the specs and the law of `heads_of` are stated of these three, and `no_heads` alone writes the bounds of no attribute.
     pub given: bool,
     pub min: u8,
     pub max: u8,
