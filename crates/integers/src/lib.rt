@@ -5,11 +5,11 @@ ghost use Rattle.std.specs.Prelude.{◌≡◌, ◌&&◌, ◌++◌, ◌+◌, ◌�
 ghost use Rattle.std.specs.Int.Signed.{le_z};
 ghost use Rattle.integers.specs.Integer.{joined, signed, bits_at, int_at, bits, int_bytes, eq_z};
 
-// The number that four bytes say with no sign.
+// The number that four bytes say with no sign. By shifts, as docs/FORMS.md has it.
 pub fn join_bytes(b0: u8, b1: u8, b2: u8, b3: u8) -> u32
     ensures { result ≡ joined b0 b1 b2 b3 }
 {
-    u32::from_le_bytes([b0, b1, b2, b3])
+    (b0 as u32) | (b1 as u32) << 8 | (b2 as u32) << 16 | (b3 as u32) << 24
 }
 
 // The integer whose bits are those of u.
@@ -42,12 +42,16 @@ pub fn int_at(s: &[u8], at: usize) -> i32
     to_signed(bits_at(s, at))
 }
 
-// Writes x as the first four bytes of `out`; no other byte changes.
+// Writes x as the first four bytes of `out`, split by shifts as docs/FORMS.md has it; no other byte changes.
 pub fn put_int(out: &mut [u8], x: i32)
     requires { 4 ≤ length out.old }
     ensures { out.new ≡ int_bytes x ++ drop 4 out.old }
 {
-    out[..4].copy_from_slice(&to_bits(x).to_le_bytes());
+    let u = to_bits(x);
+    out[0] = (u % 256) as u8;
+    out[1] = ((u >> 8) % 256) as u8;
+    out[2] = ((u >> 16) % 256) as u8;
+    out[3] = ((u >> 24) % 256) as u8;
 }
 
 // Whether a is b.
