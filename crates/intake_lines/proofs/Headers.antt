@@ -6,6 +6,7 @@ use Prim.Native.Nat.{ℕ, ◌-◌, ◌≤◌, ◌<◌}
 use native.Mathlib.Omega.{arith}
 use native.Mathlib.Nat.{pos_of_ne-zero}
 use lib.ListN.{length, take, drop}
+use Rattle.facts.proofs.Cases.{clash}
 use borrow.Author.Tests.{lt-ltb, le-ltb}
 use Rattle.format.specs.declared.Family.{Family}
 use Rattle.grammar.specs.Read.{Read, got, refuse_or, verdict}
@@ -62,6 +63,11 @@ module _ (s : List ℕ) (p : Plan) where
       let same : p.number ≡ r = ap (λ (x : Plan). x.number) said in
       refused r q (subst (λ (n : ℕ). Wrote (line 0 (n ∷ 0 ∷ [])) before after wrote) same w) refl refl said
   headed_refused before after wrote (accepted q z f plan) bad w = absurd (bad z)
+
+  -- the number is all that the plan of a refused input says
+  pub headed_number : (before after : List ℕ) (wrote : ℕ) → Headed s before after wrote 0 false p → Headed s before after wrote 0 false (no_plan p.number)
+  headed_number before after wrote (refused r q w n m said) = refused r q w n m (ap (λ (x : Plan). no_plan x.number) said)
+  headed_number before after wrote (found q f i w m l) = absurd (clash m refl)
 
   pub headed_long : InputPlan s p → p.number ≡ 0 → after_template s ≤ length s
   headed_long (rejected r q l said) none = let same : p.number ≡ r = ap (λ (x : Plan). x.number) said in absurd (omega arith)

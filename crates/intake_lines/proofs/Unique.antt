@@ -26,6 +26,7 @@ use Rattle.facts.proofs.Cases.{clash}
 use Rattle.intake_lines.specs.Contract.{Headed, Refused, refused, found, Turned, stopped, went}
 use Rattle.intake_lines.specs.declared.Progress.{Progress}
 use Rattle.intake_lines.specs.declared.Opened.{Opened}
+use Rattle.intake_lines.specs.declared.Rejected.{Rejected}
 use Rattle.plans.specs.Plans.{no_plan, PlanOf}
 use Rattle.plans.specs.declared.Plan.{Plan}
 use Rattle.plans.proofs.OnePlan.{SamePlan, refused_same, plan_same}
@@ -103,20 +104,23 @@ made_same wrote wrote' at (Some n) None p q r = absurd (clash refl r)
 made_same wrote wrote' at (Some n) (Some n') p q r = ap₂ (λ (w m : ℕ). made w (Some m)) p q
 
 -- how an input begins is one, but for the places of the plan
-pub SameOpened : Result Opened ℕ → Result Opened ℕ → Type 0
+pub SameOpened : Result Opened Rejected → Result Opened Rejected → Type 0
 SameOpened (Ok o) (Ok o') = (o.next ≡ o'.next) × SamePlan o.plan o'.plan
-SameOpened (Ok o) (Err w) = ⊥
-SameOpened (Err w) (Ok o) = ⊥
-SameOpened (Err w) (Err w') = w ≡ w'
+SameOpened (Ok o) (Err e) = ⊥
+SameOpened (Err e) (Ok o) = ⊥
+SameOpened (Err e) (Err e') = e ≡ e'
 
-opened_same : (s before after after' : List ℕ) (r r' : Result Opened ℕ)
-    → MatchResult r (λ o. Headed s before after 0 o.next true o.plan) (λ wrote. Refused s before after wrote)
-    → MatchResult r' (λ o. Headed s before after' 0 o.next true o.plan) (λ wrote. Refused s before after' wrote) → SameOpened r r' × (after ≡ after')
+rejected_same : (e e' : Rejected) → e.wrote ≡ e'.wrote → e.number ≡ e'.number → e ≡ e'
+rejected_same e e' p q = ap₂ (λ (w n : ℕ). let r : Rejected = record { wrote = w; number = n } in r) p q
+
+opened_same : (s before after after' : List ℕ) (r r' : Result Opened Rejected)
+    → MatchResult r (λ o. Headed s before after 0 o.next true o.plan) (λ e. Refused s before after e.wrote e.number)
+    → MatchResult r' (λ o. Headed s before after' 0 o.next true o.plan) (λ e. Refused s before after' e.wrote e.number) → SameOpened r r' × (after ≡ after')
 unfolding SameOpened
 opened_same s before after after' (Ok o) (Ok o') p q = let u = headed_unique _ _ _ _ _ _ _ _ _ _ _ _ p q in ((u.0.place, u.1), u.0.bytes)
-opened_same s before after after' (Ok o) (Err w) p q = let u = headed_unique _ _ _ _ _ _ _ _ _ _ _ _ p q.headed in absurd (clash refl u.0.again)
-opened_same s before after after' (Err w) (Ok o) p q = let u = headed_unique _ _ _ _ _ _ _ _ _ _ _ _ p.headed q in absurd (clash u.0.again refl)
-opened_same s before after after' (Err w) (Err w') p q = let u = headed_unique _ _ _ _ _ _ _ _ _ _ _ _ p.headed q.headed in (u.0.count, u.0.bytes)
+opened_same s before after after' (Ok o) (Err e) p q = let u = headed_unique _ _ _ _ _ _ _ _ _ _ _ _ p q.headed in absurd (clash refl u.0.again)
+opened_same s before after after' (Err e) (Ok o) p q = let u = headed_unique _ _ _ _ _ _ _ _ _ _ _ _ p.headed q in absurd (clash u.0.again refl)
+opened_same s before after after' (Err e) (Err e') p q = let u = headed_unique _ _ _ _ _ _ _ _ _ _ _ _ p.headed q.headed in (rejected_same e e' u.0.count u.1.number, u.0.bytes)
 
 pub open_input_unique : (κs : Lfts 2) (a : Dens κs open-input-kinds.ps) (r r' : (res_t open-input-kinds.r κs).Denot) (s s' : AtExit (ended_of 2 open-input-kinds.ps open-input-kinds.r) κs)
     → open-input.Post κs a r s → open-input.Post κs a r' s' → SameOpened r r' × (s.1.0.now ≡ s'.1.0.now)

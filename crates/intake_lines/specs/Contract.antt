@@ -3,7 +3,7 @@
 --                        is reached and accepted
 -- Headed s before after wrote next more p <-> the refusal line of the whole input, and then `next` is 0, `more` false and p a refused plan; or nothing
 --                        was written, `more` is true, the template stands from 3 to `next`, p is its plan, and the lists stand from `next` on
--- Refused s before after wrote <-> the input is refused in this way, with some plan
+-- Refused s before after wrote number <-> the input is refused in this way: the plan is that of bytes refused with the number
 -- StepFits at number input o <-> `at` is a place of the input, the number has at most five digits, and the buffer o has 256 bytes
 -- Turned u input at before after wrote next more <-> the turn u at the place `at`: its bytes were written; `more` says whether there
 --                        is a next turn, and `next` its place, or `at` where there is none
@@ -28,9 +28,8 @@ pub data Headed (s before after : List ℕ) (wrote next : ℕ) (more : Bool) (p 
   found : reached s ≡ got (take (next - 3) (drop 3 s)) (drop next s) → 3 ≤ next → next ≤ length s → Wrote [] before after wrote → more ≡ true → PlanOf Family.Integers (take (next - 3) (drop 3 s)) p
       → Headed s before after wrote next more p
 
-pub record Refused (s before after : List ℕ) (wrote : ℕ) : Type 0 where
-  pub plan : Plan
-  pub headed : Headed s before after wrote 0 false plan
+pub record Refused (s before after : List ℕ) (wrote number : ℕ) : Type 0 where
+  pub headed : Headed s before after wrote 0 false (no_plan number)
 
 pub record StepFits (at number : ℕ) (input o : List ℕ) : Type 0 where
   pub inside : at ≤ length input

@@ -40,15 +40,25 @@ pub struct Opened {
     pub plan: Plan,
 }
 
-// The place of the first list and the plan for all of them: the template stands from 3 to there. Of a refused input the line is written, and the error
-// says how many bytes it has.
-pub fn open_input(input: &[u8], out: &mut [u8]) -> Result<Opened, usize>
+// What is left of a refused input: how many bytes its line has, and the number that it is refused by.
+#[derive(Clone, Copy)]
+pub struct Rejected {
+    pub wrote: usize,
+    pub number: u8,
+}
+
+// The place of the first list and the plan for all of them: the template stands from 3 to there. Of a refused input the line is written.
+pub fn open_input(input: &[u8], out: &mut [u8]) -> Result<Opened, Rejected>
     requires { 256 ≤ length out.old }
-    ensures { MatchResult result (λ o. Headed input.now out.old out.new 0 o.next true o.plan) (λ wrote. Refused input.now out.old out.new wrote) }
+    ensures { MatchResult result (λ o. Headed input.now out.old out.new 0 o.next true o.plan) (λ r. Refused input.now out.old out.new r.wrote r.number) }
 {
     let plan = input_plan(input);
     if plan.number != DONE {
-        return Err(put_line(out, 0, plan.number, 0, &input[..0]));
+        let wrote = put_line(out, 0, plan.number, 0, &input[..0]);
+        return Err(Rejected {
+            wrote,
+            number: plan.number,
+        });
     }
     Ok(Opened {
         next: template_end(input),

@@ -45,6 +45,6 @@ pub fn render(input: &[u8], out: &mut [u8]) -> usize
             lists.next,
             out,
         ),
-        Err(wrote) => wrote,
+        Err(rejected) => rejected.wrote,
     }
 }
