@@ -3,6 +3,7 @@
 #![tactic(auto)]
 
 ghost use Rattle.std.specs.Prelude.{◌+◌, ◌≤◌, IfOk, length};
+ghost use Rattle.ask_parts.specs.Kind.{Decodes};
 
 use floats::float_at;
 use format::Family;
@@ -28,6 +29,8 @@ pub enum Stop {
 
 impl TryFrom<u8> for Kind {
     type Error = Stop;
+
+    ghost try_from_gives = { Decodes };
 
     fn try_from(byte: u8) -> Result<Kind, Stop> {
         match byte {

@@ -1,0 +1,3 @@
+-- The law of `Kind::try_from`.
+-- Unique == its promise allows one result only
+pub mod Unique

@@ -1,0 +1,23 @@
+-- The promise of `Kind::try_from` allows one result only: no two kinds have one byte. Stated of the definition that the contract is. Assumes nothing.
+use Rattle.std.proofs.Common.{◌≡◌, ◌∙◌, refl, sym, ap, ℕ}
+use Rattle.std.specs.Prelude.{Result, Ok, Err, cond, eqb}
+use Rattle.ask_parts.specs.declared.Kind.{Kind}
+use Rattle.ask_parts.specs.declared.Stop.{Stop}
+use Rattle.ask_parts.specs.Kind.{byte_of, Decodes}
+
+-- the kind that has the byte
+abbrev kind_at : ℕ → Kind
+kind_at b = cond (eqb b 1) Kind.Match (cond (eqb b 2) Kind.Judge (cond (eqb b 3) Kind.Normalise (cond (eqb b 4) Kind.Meeting Kind.WhyNot)))
+
+kind_back : (k : Kind) → kind_at (byte_of k) ≡ k
+kind_back Kind.Match = refl
+kind_back Kind.Judge = refl
+kind_back Kind.Normalise = refl
+kind_back Kind.Meeting = refl
+kind_back Kind.WhyNot = refl
+
+pub try_from_unique : (b : ℕ) (r r' : Result Kind Stop) → Decodes b r → Decodes b r' → r ≡ r'
+try_from_unique b (Ok k) (Ok k') p q = ap Ok (sym (kind_back k) ∙ ap kind_at (p ∙ sym q) ∙ kind_back k')
+try_from_unique b (Ok k) (Err s) p q = absurd (q.1 k p)
+try_from_unique b (Err s) (Ok k) p q = absurd (p.1 k q)
+try_from_unique b (Err s) (Err s') p q = ap Err (p.0 ∙ sym q.0)
