@@ -118,9 +118,9 @@ opened_same : (s before after after' : List ℕ) (r r' : Result Opened Rejected)
     → MatchResult r' (λ o. Headed s before after' 0 o.next true o.plan) (λ e. Refused s before after' e.wrote e.number) → SameOpened r r' × (after ≡ after')
 unfolding SameOpened
 opened_same s before after after' (Ok o) (Ok o') p q = let u = headed_unique _ _ _ _ _ _ _ _ _ _ _ _ p q in ((u.0.place, u.1), u.0.bytes)
-opened_same s before after after' (Ok o) (Err e) p q = let u = headed_unique _ _ _ _ _ _ _ _ _ _ _ _ p q.headed in absurd (clash refl u.0.again)
-opened_same s before after after' (Err e) (Ok o) p q = let u = headed_unique _ _ _ _ _ _ _ _ _ _ _ _ p.headed q in absurd (clash u.0.again refl)
-opened_same s before after after' (Err e) (Err e') p q = let u = headed_unique _ _ _ _ _ _ _ _ _ _ _ _ p.headed q.headed in (rejected_same e e' u.0.count u.1.number, u.0.bytes)
+opened_same s before after after' (Ok o) (Err e) p q = let u = headed_unique _ _ _ _ _ _ _ _ _ _ _ _ p q in absurd (clash refl u.0.again)
+opened_same s before after after' (Err e) (Ok o) p q = let u = headed_unique _ _ _ _ _ _ _ _ _ _ _ _ p q in absurd (clash u.0.again refl)
+opened_same s before after after' (Err e) (Err e') p q = let u = headed_unique _ _ _ _ _ _ _ _ _ _ _ _ p q in (rejected_same e e' u.0.count u.1.number, u.0.bytes)
 
 pub open_input_unique : (κs : Lfts 2) (a : Dens κs open-input-kinds.ps) (r r' : (res_t open-input-kinds.r κs).Denot) (s s' : AtExit (ended_of 2 open-input-kinds.ps open-input-kinds.r) κs)
     → open-input.Post κs a r s → open-input.Post κs a r' s' → SameOpened r r' × (s.1.0.now ≡ s'.1.0.now)

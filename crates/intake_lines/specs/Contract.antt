@@ -28,8 +28,8 @@ pub data Headed (s before after : List ℕ) (wrote next : ℕ) (more : Bool) (p 
   found : reached s ≡ got (take (next - 3) (drop 3 s)) (drop next s) → 3 ≤ next → next ≤ length s → Wrote [] before after wrote → more ≡ true → PlanOf Family.Integers (take (next - 3) (drop 3 s)) p
       → Headed s before after wrote next more p
 
-pub record Refused (s before after : List ℕ) (wrote number : ℕ) : Type 0 where
-  pub headed : Headed s before after wrote 0 false (no_plan number)
+abbrev pub Refused : List ℕ → List ℕ → List ℕ → ℕ → ℕ → Type 0
+Refused s before after wrote number = Headed s before after wrote 0 false (no_plan number)
 
 pub record StepFits (at number : ℕ) (input o : List ℕ) : Type 0 where
   pub inside : at ≤ length input

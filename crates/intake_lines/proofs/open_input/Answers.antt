@@ -5,7 +5,7 @@ use Rattle.intake_lines.proofs.open_input.Goals as goal
 
 pub returns-then-plan-ne-DONE : goal.returns-then-plan-ne-DONE
 returns-then-plan-ne-DONE c =
-    record { headed = headed_number _ _ _ _ _ (headed_refused c.args.input.now _ _ _ _ c.input_plan-plan.ensures c.if-plan-ne-DONE.true c.put_line-wrote.ensures) }
+    headed_number _ _ _ _ _ (headed_refused c.args.input.now _ _ _ _ c.input_plan-plan.ensures c.if-plan-ne-DONE.true c.put_line-wrote.ensures)
 
 pub template_end-requires : goal.template_end-requires
 template_end-requires c = let h = headed_long c.args.input.now _ c.input_plan-plan.ensures c.if-plan-ne-DONE.false in omega arith

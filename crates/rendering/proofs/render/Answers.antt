@@ -19,4 +19,4 @@ returns-in-Ok c =
     lists_all _ _ _ _ _ _ _ (header_known _ _ _ _ _ _ _ headed refl) (header_none _ _ _ _ _ _ _ headed refl) c.put_lists.ensures
 
 pub returns-in-Err : goal.returns-in-Err
-returns-in-Err c = header_all _ _ _ _ _ _ _ c.in-Err.ensures.headed refl
+returns-in-Err c = header_all _ _ _ _ _ _ _ c.in-Err.ensures refl
